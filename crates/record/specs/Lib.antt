@@ -1,0 +1,5 @@
+pub mod Codes
+pub mod Entry
+pub mod Checks
+pub mod Layout
+pub mod Halves
