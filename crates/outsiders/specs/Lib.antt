@@ -1,0 +1,2 @@
+pub mod Chiefs
+pub mod Shelves

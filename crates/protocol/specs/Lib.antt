@@ -1,0 +1,11 @@
+pub mod Codes
+pub mod Device
+pub mod Reading
+pub mod Deciding
+pub mod State
+pub mod Refusals
+pub mod Calls
+pub mod Runs
+pub mod Chain
+pub mod Rounds
+pub mod Worked
