@@ -3,8 +3,14 @@ use account::end::End;
 use account::end::EndAccounts;
 use account::pair::Pair;
 use account::pair::PairAccounts;
+use bench::runs::run_by_weight;
+use group::found::NotRun;
 use group::found::check as check_group;
 use group::group::Group;
+use protocol::answer::Answer;
+use protocol::answer::AnswerDebug;
+use protocol::answer::AnswerPartialEq;
+use protocol::call::Call;
 use protocol::outcome::Outcome;
 use protocol::outcome::OutcomeDebug;
 use protocol::outcome::OutcomePartialEq;
@@ -82,4 +88,65 @@ fn founding_is_refused() -> Result<(), Fail> {
         check_group(&accounts, &Majority::new(2)?),
         Err(Refusal::QuorumOfOtherSize),
     )
+}
+
+// The answers to a device that joins, proposes and uses account 0 alone, where account k weighs weights[k].
+fn alone(rt: LibcRuntime, weights: &[u8]) -> Result<Vec<Answer>, NotRun> {
+    let calls = [
+        Call::Join { device: 1 },
+        Call::Propose {
+            device: 1,
+            base: 0,
+            value: VALUE,
+        },
+        Call::Send {
+            device: 1,
+            account: 0,
+        },
+        Call::Read {
+            device: 1,
+            account: 0,
+        },
+        Call::Send {
+            device: 1,
+            account: 0,
+        },
+        Call::Read {
+            device: 1,
+            account: 0,
+        },
+    ];
+    run_by_weight(rt.alloc(), weights, &calls)
+}
+
+// An account with more than half of the weight decides by itself, one with half does not.
+#[test]
+fn a_heavy_account(rt: LibcRuntime) -> Result<(), Fail> {
+    match alone(rt, &[3, 1, 1]) {
+        Ok(answers) => check_eq(
+            answers.as_slice().last(),
+            Some(&Answer::Taken(1, Outcome::Decided)),
+        ),
+        Err(_) => check(false),
+    }
+}
+
+#[test]
+fn half_of_the_weight(rt: LibcRuntime) -> Result<(), Fail> {
+    match alone(rt, &[2, 1, 1]) {
+        Ok(answers) => check_eq(
+            answers.as_slice().last(),
+            Some(&Answer::Taken(0, Outcome::Waiting)),
+        ),
+        Err(_) => check(false),
+    }
+}
+
+#[test]
+fn weights_for_two_accounts(rt: LibcRuntime) -> Result<(), Fail> {
+    match alone(rt, &[1, 1]) {
+        Ok(_) => check(false),
+        Err(NotRun::NoMemory) => check(false),
+        Err(NotRun::Refused(refusal)) => check_eq(refusal, Refusal::QuorumOfOtherSize),
+    }
 }

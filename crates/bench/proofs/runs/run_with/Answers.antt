@@ -18,4 +18,5 @@ returns g c =
     record {
       answers = replay .run .0 ∙ ap (λ (bs : List Book). runs R (newState bs) cs .0) books;
       order = subst (λ (bs : List Book). OneOrder R (newState bs) cs) books (replay .order);
+      not-made = tt;
     }
