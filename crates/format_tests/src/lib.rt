@@ -1,4 +1,6 @@
 // Runs the record format and the log's rule on examples; every crate below is proved without them.
+#![tactic(auto)]
+
 use journal::area::{Fault, inspect};
 use journal::view::View;
 use record::numbers::Numbers;

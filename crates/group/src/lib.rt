@@ -1,4 +1,6 @@
 // The protocol as a program: devices, the group that they form over any accounts and any quorum rule, and whole runs.
+#![tactic(auto)]
+
 pub mod calls;
 pub mod changes;
 pub mod conclude;

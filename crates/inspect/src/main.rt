@@ -1,4 +1,6 @@
 // Reads the log of one account from standard input, and prints what it holds.
+#![tactic(auto)]
+
 use report::report::report;
 use std::io;
 use std::io::{Read, Write};

@@ -1,5 +1,5 @@
 -- What an area of bytes holds, and what it says about a version.
-use Rattle.std.specs.Prelude.{ℕ, zero, suc, ◌*◌, ◌%◌, Bool, cond, not, ◌&&◌, List, [], ◌∷◌, map, length, take, drop, Some, None, Ok, Err, vec_items, Option, Result, ◌==◌, nat_le, nat_lt}
+use Rattle.std.specs.Prelude.{ℕ, zero, suc, ◌*◌, ◌%◌, not, ◌&&◌, List, [], ◌∷◌, map, length, take, drop, Some, None, Ok, Err, vec_items, Option, Result, ◌==◌, nat_le, nat_lt}
 use Rattle.record.specs.Checks.{Check, when, unless}
 use Rattle.record.specs.Entry.{Entry, entry_of}
 use Rattle.record.specs.Layout.{decoded}

@@ -13,8 +13,8 @@ use storage::versioned_file::VersionedFile;
 
 // Copies the newest record of one account to the end of another, whatever their kinds.
 pub fn relay<B: Accounts>(accounts: &mut B, from: usize, to: usize) -> Result<usize, Refusal>
-    ensures call { (result, books accounts.new) ≡ relayed (books accounts.old) from to }
-    ensures lent { lent accounts.new ≡ lent accounts.old }
+    ensures call { (result, B.books accounts.new) ≡ relayed (B.books accounts.old) from to }
+    ensures lent { B.lent accounts.new ≡ B.lent accounts.old }
 {
     let length = accounts.length(from)?;
     let newest = accounts.read(from, length.saturating_sub(1))?;

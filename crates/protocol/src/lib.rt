@@ -1,4 +1,6 @@
 // The protocol: its plain types, the definitions of every call, and the laws over whole runs.
+#![tactic(auto)]
+
 pub mod answer;
 pub mod call;
 pub mod link;

@@ -1,4 +1,6 @@
 // Quorum rules: which sets of accounts suffice for a decision.
+#![tactic(auto)]
+
 pub mod examples;
 pub mod majority;
 pub mod quorum;

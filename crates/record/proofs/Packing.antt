@@ -2,7 +2,6 @@
 use Rattle.std.proofs.Common.{◌≡◌, ℕ, ◌+◌, ◌*◌, ◌/◌, ◌%◌, ◌^◌, ◌<◌, List, ◌++◌, sym, ap, ◌∙◌, arith}
 use lib.Bits.{bit_or}
 use Rattle.std.proofs.lemmas.Nat.{or_shifted, shr_split}
-use Rattle.record.specs.Codes.{kind_number}
 use Rattle.record.specs.Entry.{Entry}
 use Rattle.record.specs.Halves.{head_of}
 use Rattle.record.specs.Layout.{packed, unpacked, bytes_of}

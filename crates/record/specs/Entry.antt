@@ -1,5 +1,5 @@
 -- What a record says, without the ranges that its type keeps: the form in which lists and models hold records.
-use Rattle.std.specs.Prelude.{◌≡◌, ℕ, ◌+◌, ◌*◌, Ok, Err, Result}
+use Rattle.std.specs.Prelude.{ℕ, ◌+◌, ◌*◌, Ok, Err, Result}
 use Rattle.record.specs.declared.kind.Kind.{Kind}
 use Rattle.record.specs.declared.record.Record.{Record}
 use Rattle.record.specs.declared.refusal.Refusal.{Refusal}

@@ -1,5 +1,5 @@
 -- A whole report: a line for each record, for what is no record, and for each version, and a closing line.
-use Rattle.std.specs.Prelude.{ℕ, zero, suc, ◌+◌, ◌-◌, Bool, true, false, cond, ◌||◌, List, [], ◌∷◌, ◌++◌, length, Some, None, Option, ◌==◌}
+use Rattle.std.specs.Prelude.{ℕ, zero, suc, ◌+◌, ◌-◌, Bool, false, cond, ◌||◌, List, [], ◌∷◌, ◌++◌, length, Some, None, Option, ◌==◌}
 use Rattle.record.specs.Entry.{Entry}
 use Rattle.record.specs.declared.refusal.Refusal.{Refusal}
 use Rattle.journal.specs.Area.{read_area, limit}

@@ -1,3 +1,5 @@
 // What the log of one account holds, as text for a person.
+#![tactic(auto)]
+
 pub mod lines;
 pub mod report;

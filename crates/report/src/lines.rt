@@ -7,7 +7,7 @@ use record::kind::Kind;
 use record::record::Record;
 use record::refusal::Refusal;
 use record::value::Value;
-use std::fmt;
+use std::alloc::AllocError;
 
 fn kind_name(kind: Kind) -> &'static str
     ensures { result.now ≡ kind_name kind }
@@ -18,7 +18,7 @@ fn kind_name(kind: Kind) -> &'static str
     }
 }
 
-fn write_request(out: &mut String, place: usize, r: &Record) -> fmt::Result
+fn write_request(out: &mut String, place: usize, r: &Record) -> Result<(), AllocError>
     ensures { OnOk result (string_bytes out.new ≡ string_bytes out.old ++ request_text place (entry_of r.now)) }
 {
     let kind = kind_name(r.kind);
@@ -32,7 +32,7 @@ fn write_request(out: &mut String, place: usize, r: &Record) -> fmt::Result
     )
 }
 
-fn write_value(out: &mut String, value: Value) -> fmt::Result
+fn write_value(out: &mut String, value: Value) -> Result<(), AllocError>
     ensures { OnOk result (string_bytes out.new ≡ string_bytes out.old ++ value_text value) }
 {
     let root = value.root;
@@ -41,7 +41,7 @@ fn write_value(out: &mut String, value: Value) -> fmt::Result
 }
 
 // One record of a log, under its place.
-pub(crate) fn record_line(out: &mut String, place: usize, r: &Record) -> fmt::Result
+pub(crate) fn record_line(out: &mut String, place: usize, r: &Record) -> Result<(), AllocError>
     ensures { OnOk result (string_bytes out.new ≡ string_bytes out.old ++ record_line place (entry_of r.now)) }
 {
     write_request(out, place, r)?;
@@ -63,7 +63,11 @@ fn meaning(number: u8) -> &'static str
 }
 
 // What stands at a place where a record should, and is none.
-pub(crate) fn refusal_line(out: &mut String, place: usize, refusal: Refusal) -> fmt::Result
+pub(crate) fn refusal_line(
+    out: &mut String,
+    place: usize,
+    refusal: Refusal,
+) -> Result<(), AllocError>
     ensures { OnOk result (string_bytes out.new ≡ string_bytes out.old ++ refusal_line place refusal) }
 {
     let number = refusal.number();
@@ -72,7 +76,7 @@ pub(crate) fn refusal_line(out: &mut String, place: usize, refusal: Refusal) -> 
 }
 
 // What the log says about one version.
-pub(crate) fn view_line(out: &mut String, version: u32, view: View) -> fmt::Result
+pub(crate) fn view_line(out: &mut String, version: u32, view: View) -> Result<(), AllocError>
     ensures { OnOk result (string_bytes out.new ≡ string_bytes out.old ++ view_line version view) }
 {
     let promised = view.promised;
@@ -91,7 +95,7 @@ pub(crate) fn closing_line(
     prepares: usize,
     accepts: usize,
     versions: u32,
-) -> fmt::Result
+) -> Result<(), AllocError>
     ensures { OnOk result (string_bytes out.new ≡ string_bytes out.old ++ closing_line prepares accepts versions) }
 {
     writeln!(

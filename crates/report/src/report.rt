@@ -9,9 +9,8 @@ use record::kind::Kind;
 use record::record::Record;
 use record::refusal::Refusal;
 use std::alloc::{AllocError, Global};
-use std::fmt;
 
-fn record_lines(out: &mut String, records: &[Record]) -> fmt::Result
+fn record_lines(out: &mut String, records: &[Record]) -> Result<(), AllocError>
     ensures { OnOk result (string_bytes out.new ≡ string_bytes out.old ++ record_lines 0 (map entry_of records.now)) }
 {
     for (place, r) in records.iter().enumerate() {
@@ -36,7 +35,7 @@ fn survey(records: &[Record], version: u32) -> Option<View>
 }
 
 // A line for a version if it occurs, and whether it does, as 1 or 0.
-fn version_line(out: &mut String, version: u32, records: &[Record]) -> Result<u32, fmt::Error>
+fn version_line(out: &mut String, version: u32, records: &[Record]) -> Result<u32, AllocError>
     ensures { IfOk result (λ n. (string_bytes out.new ≡ string_bytes out.old ++ version_line version (surveyed version (map entry_of records.now))) × (n ≡ occurrence version (map entry_of records.now))) }
 {
     match survey(records, version) {
@@ -49,7 +48,7 @@ fn version_line(out: &mut String, version: u32, records: &[Record]) -> Result<u3
 }
 
 // A line for each version that occurs, and how many there are.
-fn version_lines(out: &mut String, records: &[Record]) -> Result<u32, fmt::Error>
+fn version_lines(out: &mut String, records: &[Record]) -> Result<u32, AllocError>
     ensures { IfOk result (λ n. (string_bytes out.new ≡ string_bytes out.old ++ version_lines 1023 1 (map entry_of records.now)) × (n ≡ version_count 1023 1 (map entry_of records.now))) }
 {
     let mut versions = 0;
@@ -72,7 +71,7 @@ fn count_prepares(records: &[Record]) -> usize
     count
 }
 
-fn refusal_lines(out: &mut String, place: usize, refusal: Option<Refusal>) -> fmt::Result
+fn refusal_lines(out: &mut String, place: usize, refusal: Option<Refusal>) -> Result<(), AllocError>
     ensures { OnOk result (string_bytes out.new ≡ string_bytes out.old ++ refusal_lines place refusal) }
 {
     match refusal {
@@ -81,7 +80,11 @@ fn refusal_lines(out: &mut String, place: usize, refusal: Option<Refusal>) -> fm
     }
 }
 
-fn write_front(out: &mut String, records: &[Record], refusal: Option<Refusal>) -> fmt::Result
+fn write_front(
+    out: &mut String,
+    records: &[Record],
+    refusal: Option<Refusal>,
+) -> Result<(), AllocError>
     ensures { OnOk result (string_bytes out.new ≡ string_bytes out.old ++ front_text (map entry_of records.now) refusal) }
 {
     record_lines(out, records)?;
@@ -97,8 +100,6 @@ pub fn report(heap: Global, area: &[u8]) -> Result<String, AllocError>
 {
     let reading = read_area(heap, area)?;
     let mut out = String::new(heap);
-    match write_front(&mut out, reading.records.as_slice(), reading.refusal) {
-        Ok(()) => Ok(out),
-        Err(_) => Err(AllocError),
-    }
+    write_front(&mut out, reading.records.as_slice(), reading.refusal)?;
+    Ok(out)
 }

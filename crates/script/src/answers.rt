@@ -7,9 +7,8 @@ use protocol::call::Call;
 use protocol::version::Version;
 use record::refusal::Refusal;
 use std::alloc::{AllocError, Global};
-use std::fmt;
 
-fn write_version(out: &mut String, version: Version) -> fmt::Result
+fn write_version(out: &mut String, version: Version) -> Result<(), AllocError>
     ensures { OnOk result (string_bytes out.new ≡ string_bytes out.old ++ answer_line (Answer.Holds version)) }
 {
     let number = version.number;
@@ -19,7 +18,7 @@ fn write_version(out: &mut String, version: Version) -> fmt::Result
 }
 
 // One answer, as a line.
-fn write_answer(out: &mut String, answer: Answer) -> fmt::Result
+fn write_answer(out: &mut String, answer: Answer) -> Result<(), AllocError>
     ensures { OnOk result (string_bytes out.new ≡ string_bytes out.old ++ answer_line answer) }
 {
     match answer {
@@ -39,7 +38,7 @@ fn write_answer(out: &mut String, answer: Answer) -> fmt::Result
 }
 
 // The refusals of lines and the answers to calls, each on a line, in the order of the script.
-fn write_lines(out: &mut String, lines: &[Result<Call, Refusal>], answers: &[Answer]) -> fmt::Result
+fn write_lines(out: &mut String, lines: &[Result<Call, Refusal>], answers: &[Answer]) -> Result<(), AllocError>
     ensures { OnOk result (string_bytes out.new ≡ string_bytes out.old ++ shown lines.now answers.now) }
 {
     let mut next = 0;
@@ -66,8 +65,6 @@ pub fn show(
     ensures { IfOk result (λ t. string_bytes t ≡ shown lines.now answers.now) }
 {
     let mut out = String::new(heap);
-    match write_lines(&mut out, lines, answers) {
-        Ok(()) => Ok(out),
-        Err(_) => Err(AllocError),
-    }
+    write_lines(&mut out, lines, answers)?;
+    Ok(out)
 }

@@ -13,7 +13,7 @@ returns g c =
     let cs = c.args.calls.now in
     let books : log_book c.new-first.result ∷ file_book c.new-second.result ∷ log_book c.new-third.result ∷ [] ≡ empty 64 ∷ empty 64 ∷ empty 64 ∷ [] =
     λ i. c.new-first.ensures.book i ∷ c.new-second.ensures.book i ∷ c.new-third.ensures.book i ∷ [] in
-    let replay = c.in-ok-replay.ensures in
+    let replay = c.in_ok-replay.ensures in
     record {
       answers = replay.run.0 ∙ ap (λ (bs : List Book). (runs R (new_state bs) cs).0) books;
       order = subst (λ (bs : List Book). OneOrder R (new_state bs) cs) books replay.order;

@@ -13,5 +13,5 @@ returns-in-Ok g c =
       run =
           let e = c.in-Ok.ensures.run ∙ ap (λ m. runs_on m c.args.calls.now) c.new-group.ensures in
           (ap (λ p. p.0) e, c.devices.ensures ∙ ap (λ p. p.1.state.devices) e);
-      order = one-order R (g.met.Q.Quorum.lawful c.args.quorum) (new_state bs) (founded-new R bs (sym c.in-default.ensures)) c.args.calls.now;
+      order = one-order R (g.met.Q.Quorum.lawful c.args.quorum) (new_state bs) (founded-new R bs (sym c.in_default.ensures)) c.args.calls.now;
     }

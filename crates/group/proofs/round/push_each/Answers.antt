@@ -1,4 +1,4 @@
-use Rattle.std.proofs.Common.{[], ◌∷◌, ◌++◌, map, get_or, take, vec_items, sym, ap, ◌∙◌, append_assoc, append-nil}
+use Rattle.std.proofs.Common.{[], ◌∷◌, ◌++◌, map, take, vec_items, sym, ap, ◌∙◌, append_assoc, append-nil}
 use Rattle.std.proofs.lemmas.List.{map_more, take_all}
 use Rattle.group.specs.Rounds.{pass_call}
 use Rattle.group.proofs.round.push_each.Goals as goal
@@ -12,7 +12,7 @@ loop-account-preserved c =
     let i = c.loop-account.account-index in
     let ks = c.args.accounts.now in
     let before = vec_items c.args.calls.now in
-    c.in-ok-push.ensures.items
+    c.in_ok-push.ensures.items
     ∙ ap (λ l. l ++ c.call.result ∷ []) c.loop-account.invariant
     ∙ append_assoc before (map f (take i ks)) (c.call.result ∷ [])
     ∙ ap (λ x. before ++ (map f (take i ks) ++ x ∷ [])) c.call.ensures

@@ -15,9 +15,9 @@ pub returns : goal.returns
 returns c =
     joined _ _ _ _ _ _ _ _ _ _ _ _ _
     c.new-calls.ensures.items
-    c.in-ok-push-each.ensures
-    c.in-ok-push.ensures.items
-    c.in-ok-push-each-2.ensures
-    c.in-ok-push-each-3.ensures
-    c.in-ok-push-each-4.ensures
-    c.in-ok-push-each-5.ensures
+    c.in_ok-push_each.ensures
+    c.in_ok-push.ensures.items
+    c.in_ok-push_each-2.ensures
+    c.in_ok-push_each-3.ensures
+    c.in_ok-push_each-4.ensures
+    c.in_ok-push_each-5.ensures

@@ -12,8 +12,8 @@ pub loop-place-init : goal.loop-place-init
 loop-place-init c =
     let a = c.chunks.ensures in
     let b = c.enumerate-place-items.ensures in
-    let d = c.into-iter-place-iterator.ensures.into-iter-gives in
-    let it = c.into-iter-place-iterator.result in
+    let d = c.into_iter-place-iterator.ensures.into_iter_gives in
+    let it = c.into_iter-place-iterator.result in
     let size : chunks_size (enumerate_source it) ≡ 16 = ap (λ x. chunks_size (enumerate_source x)) d ∙ ap chunks_size b.source ∙ a.size in
     let rest : chunks_rest (enumerate_source it) ≡ c.args.area.now = ap (λ x. chunks_rest (enumerate_source x)) d ∙ ap chunks_rest b.source ∙ a.rest in
     let count : enumerate_count it ≡ 0 = ap enumerate_count d ∙ b.count in

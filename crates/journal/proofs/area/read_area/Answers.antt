@@ -1,8 +1,8 @@
-use Rattle.std.proofs.Common.{◌≡◌, ℕ, suc, ◌-◌, ◌≤◌, min, [], ◌∷◌, ◌++◌, map, length, vec_items, vec_len, sym, refl, ap, ◌∙◌, append-nil, arith, rules}
+use Rattle.std.proofs.Common.{◌≡◌, ℕ, suc, ◌-◌, min, map, length, vec_items, vec_len, sym, ap, ◌∙◌, arith, rules}
 use Rattle.std.specs.Slice.Iter.{chunks_rest, chunks_size}
 use Rattle.record.specs.Entry.{entry_of}
 use Rattle.record.specs.Layout.{decoded}
-use Rattle.journal.specs.Area.{Front, stopped, before, read_area, limit}
+use Rattle.journal.specs.Area.{before, read_area, limit}
 use Rattle.journal.proofs.Fronts.{after, after_more, nothing-after, read-turn, read-end, read-over}
 use Rattle.journal.proofs.area.read_area.Goals as goal
 use Rattle.journal.proofs.area.read_area.Goals.{In-Some}
@@ -10,10 +10,10 @@ use Rattle.journal.proofs.area.read_area.Goals.{In-Some}
 pub loop-bytes-init : goal.loop-bytes-init
 loop-bytes-init c =
     let a = c.chunks-bytes-items.ensures in
-    let d = c.into-iter-bytes-iterator.ensures.into-iter-gives in
+    let d = c.into_iter-bytes-iterator.ensures.into_iter_gives in
     let n = c.new-records.ensures in
-    let size : chunks_size c.into-iter-bytes-iterator.result ≡ 16 = ap chunks_size d ∙ a.size in (
-      tt,
+    let size : chunks_size c.into_iter-bytes-iterator.result ≡ 16 = ap chunks_size d ∙ a.size in (
+      omega (arith, size),
       omega arith,
       size,
       omega arith,
@@ -36,11 +36,11 @@ turn c room =
 pub loop-bytes-preserved : goal.loop-bytes-preserved
 loop-bytes-preserved c =
     let room : vec_len c.loop-bytes.records ≡ limit → ⊥ = search rules in
-    let pushed = c.in-ok-push.ensures in
+    let pushed = c.in_ok-push-in-Ok.ensures in
     let size : chunks_size c.next.new.self ≡ 16 = c.in-Some.ensures.steps.0 ∙ c.loop-bytes.invariant.2 in
     let len : limit - vec_len c.push.new.self ≡ limit - suc (vec_len c.loop-bytes.records) = omega (arith, pushed.len) in
     let rest = λ (n : ℕ). read_area n (chunks_rest c.next.new.self) in (
-      tt,
+      omega (arith, size),
       omega arith,
       size,
       omega (arith, pushed.len, room, c.loop-bytes.invariant.3),

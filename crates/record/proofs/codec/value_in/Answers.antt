@@ -5,4 +5,4 @@ use Rattle.record.proofs.codec.value_in.Goals as goal
 pub returns : goal.returns
 returns c =
     let e : length c.args.bytes.now ≡ 12 = search rules in
-    record { value = value-is c.args.bytes.now c.from-be-bytes-root.result c.from-be-bytes-setup.result e (omega arith) (omega arith); bound = search rules }
+    record { value = value-is c.args.bytes.now c.from_be_bytes-root.result c.from_be_bytes-setup.result e (omega arith) (omega arith); bound = search rules }

@@ -1,4 +1,4 @@
-use Rattle.std.proofs.Common.{sym, ap, ◌∙◌, arith, rules}
+use Rattle.std.proofs.Common.{sym, ap, ◌∙◌, rules}
 use Rattle.std.proofs.lemmas.Bool.{cond-false, ne_eqb}
 use Rattle.report.specs.Lines.{meaning_text}
 use Rattle.report.proofs.lines.meaning.Goals as goal
@@ -9,8 +9,8 @@ returns-in-1 c = sym (ap meaning_text c.in-1.is)
 pub returns-in-5 : goal.returns-in-5
 returns-in-5 c = sym (ap meaning_text c.in-5.is)
 
-pub returns-in-default : goal.returns-in-default
-returns-in-default c =
+pub returns-in_default : goal.returns-in_default
+returns-in_default c =
     let n = c.args.number in
     sym
     (cond-false _ _ _ (ne_eqb n 1 (search rules))

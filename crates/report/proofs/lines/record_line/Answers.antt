@@ -6,6 +6,6 @@ use Rattle.report.proofs.lines.record_line.Goals as goal
 
 pub returns : goal.returns
 returns c =
-    wrote_then c.write-value.result (string_bytes c.args.out.now) _ _ (request_text c.args.place (entry_of c.args.r.now)) _
-    c.in-ok-write-request.ensures
-    c.write-value.ensures
+    wrote_then c.write_value.result (string_bytes c.args.out.now) _ _ (request_text c.args.place (entry_of c.args.r.now)) _
+    c.in_ok-write_request.ensures
+    c.write_value.ensures

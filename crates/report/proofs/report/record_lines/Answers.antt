@@ -1,4 +1,4 @@
-use Rattle.std.proofs.Common.{◌++◌, map, drop, string_bytes, sym, refl, ap, ◌∙◌}
+use Rattle.std.proofs.Common.{◌++◌, string_bytes, sym, ap, ◌∙◌}
 use Rattle.record.specs.Entry.{entry_of}
 use Rattle.report.specs.Report.{record_lines}
 use Rattle.report.proofs.Steps.{next-entry, last_entry, line-more, line-end}
@@ -9,7 +9,7 @@ loop-place-preserved c =
     let out = string_bytes c.loop-place.out in
     let i = c.loop-place.place in
     let r = c.index-records-place.result in
-    line-more i (entry_of r) _ out (string_bytes c.record-line.new.out) c.in-ok-record-line.ensures
+    line-more i (entry_of r) _ out (string_bytes c.record_line.new.out) c.in_ok-record_line.ensures
     ∙ ap (λ es. out ++ record_lines i es) (sym (next-entry c.args.records.now i r c.loop-place-test.true c.index-records-place.is))
     ∙ c.loop-place.invariant
 

@@ -12,10 +12,10 @@ loop-version-preserved c =
     let w = c.loop-version.version in
     let es = map entry_of c.args.records.now in
     let out = string_bytes c.loop-version.out in
-    let line = c.in-ok-versions.ensures in
+    let line = c.in_ok-versions.ensures in
     let n : 1024 - w ≡ suc (1024 - (w + 1)) = omega (arith, c.loop-version-test.true) in
     let inv = c.loop-version.invariant in (
-      versions-more (1024 - (w + 1)) w es out (string_bytes c.version-line.new.out) line.0
+      versions-more (1024 - (w + 1)) w es out (string_bytes c.version_line.new.out) line.0
           ∙ ap (λ k. out ++ version_lines k w es) (sym n)
           ∙ inv.0,
       counted-more (1024 - (w + 1)) w es c.loop-version.versions _ (ap (λ k. c.loop-version.versions + k) line.1)

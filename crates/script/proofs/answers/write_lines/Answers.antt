@@ -6,7 +6,7 @@ use Rattle.script.specs.Answers.{answer_line}
 use Rattle.script.specs.Script.{shown}
 use Rattle.script.proofs.Steps.{grown, next-is}
 use Rattle.script.proofs.answers.write_lines.Goals as goal
-use Rattle.script.proofs.answers.write_lines.Goals.{in-Err+in-ok-write-answer, in-Ok+then-next-answers+in-ok-write-answer-2, in-Ok+else-next-answers}
+use Rattle.script.proofs.answers.write_lines.Goals.{in-Err+in_ok-write_answer-in-Err, in-Ok+then-next-answers+in_ok-write_answer-in-Ok, in-Ok+else-next-answers}
 
 pub loop-line-preserved : goal.loop-line-preserved
 unfolding shown
@@ -19,17 +19,17 @@ loop-line-preserved c =
     let then = string_bytes c.match-line.out in
     let inv = c.loop-line.invariant in
     elim c.match-line.branch [
-      | in-Err+in-ok-write-answer w ↦ (
+      | in-Err+in_ok-write_answer-in-Err w ↦ (
         ap (λ k. then ++ shown (drop (i + 1) lines) (drop k answers)) w.next-is
             ∙ grown was then (answer_line (Refused w.in-Err.refusal)) (shown (drop (i + 1) lines) (drop n answers)) _
-            (ap string_bytes w.out-is ∙ w.in-ok-write-answer.ensures)
+            (ap string_bytes w.out-is ∙ w.in_ok-write_answer-in-Err.ensures)
             (ap (λ ls. was ++ shown ls (drop n answers)) (sym (next-is lines i _ _ c.loop-line-test.true w.in-Err.is)) ∙ inv.0),
         omega (arith, w.next-is, inv.1),
       )
-      | in-Ok+then-next-answers+in-ok-write-answer-2 w ↦ (
+      | in-Ok+then-next-answers+in_ok-write_answer-in-Ok w ↦ (
         ap (λ k. then ++ shown (drop (i + 1) lines) (drop k answers)) w.next-is
             ∙ grown was then _ (shown (drop (i + 1) lines) (drop (n + 1) answers)) _
-            (ap string_bytes w.out-is ∙ w.in-ok-write-answer-2.ensures)
+            (ap string_bytes w.out-is ∙ w.in_ok-write_answer-in-Ok.ensures)
             ((λ k. was ++ shown (sym (next-is lines i _ _ c.loop-line-test.true w.in-Ok.is) k) (sym (drop_more answers n (Refused NotWhole) w.if-next-answers.true) k)) ∙ inv.0),
         omega (arith, w.next-is, w.if-next-answers.true),
       )

@@ -5,78 +5,78 @@ use Rattle.script.specs.Commands.{command_of, number_at, read_as, parsed_line}
 use Rattle.script.proofs.Refusing.{read_by, read-good, read-bad}
 use Rattle.script.proofs.command.parse_line.Goals as goal
 
-pub returns-in-default : goal.returns-in-default
+pub returns-in_default : goal.returns-in_default
 unfolding parsed_line
-returns-in-default c = ap (λ o. read_as (command_of o) c.args.line.now) c.in-default.ensures
+returns-in_default c = ap (λ o. read_as (command_of o) c.args.line.now) c.in_default.ensures
 
 pub returns-in-76 : goal.returns-in-76
-returns-in-76 c = c.set-link.ensures ∙ read_by c.args.line.now _ c.in-Some.ensures 76 c.in-76.is
+returns-in-76 c = c.set_link.ensures ∙ read_by c.args.line.now _ c.in-Some.ensures 76 c.in-76.is
 
 pub returns-in-80 : goal.returns-in-80
 returns-in-80 c = c.propose.ensures ∙ read_by c.args.line.now _ c.in-Some.ensures 80 c.in-80.is
 
-pub returns-in-ok-one : goal.returns-in-ok-one
-returns-in-ok-one c =
+pub returns-in_ok-one-in-74 : goal.returns-in_ok-one-in-74
+returns-in_ok-one-in-74 c =
     let line = c.args.line.now in
-    read-good line _ c.in-Some.ensures 74 (λ d. Join d) (32 ∷ []) (number_at line 1) refl c.in-74.is _ c.in-ok-one.ensures
+    read-good line _ c.in-Some.ensures 74 (λ d. Join d) (32 ∷ []) (number_at line 1) refl c.in-74.is _ c.in_ok-one-in-74.ensures
 
-pub returns-in-err-one : goal.returns-in-err-one
-returns-in-err-one c =
+pub returns-in_err-one-in-74 : goal.returns-in_err-one-in-74
+returns-in_err-one-in-74 c =
     let line = c.args.line.now in
-    read-bad line _ c.in-Some.ensures 74 (λ d. Join d) (32 ∷ []) (number_at line 1) refl c.in-74.is _ _ c.from-residual.ensures.1 c.in-err-one.ensures
+    read-bad line _ c.in-Some.ensures 74 (λ d. Join d) (32 ∷ []) (number_at line 1) refl c.in-74.is _ _ c.from_residual.ensures.1 c.in_err-one-in-74.ensures
 
-pub returns-in-ok-one-2 : goal.returns-in-ok-one-2
-returns-in-ok-one-2 c =
+pub returns-in_ok-one-in-65 : goal.returns-in_ok-one-in-65
+returns-in_ok-one-in-65 c =
     let line = c.args.line.now in
-    read-good line _ c.in-Some.ensures 65 (λ d. Again d) (32 ∷ []) (number_at line 1) refl c.in-65.is _ c.in-ok-one-2.ensures
+    read-good line _ c.in-Some.ensures 65 (λ d. Again d) (32 ∷ []) (number_at line 1) refl c.in-65.is _ c.in_ok-one-in-65.ensures
 
-pub returns-in-err-one-2 : goal.returns-in-err-one-2
-returns-in-err-one-2 c =
+pub returns-in_err-one-in-65 : goal.returns-in_err-one-in-65
+returns-in_err-one-in-65 c =
     let line = c.args.line.now in
-    read-bad line _ c.in-Some.ensures 65 (λ d. Again d) (32 ∷ []) (number_at line 1) refl c.in-65.is _ _ c.from-residual-in-err-one-2.ensures.1 c.in-err-one-2.ensures
+    read-bad line _ c.in-Some.ensures 65 (λ d. Again d) (32 ∷ []) (number_at line 1) refl c.in-65.is _ _ c.from_residual-in_err-one-in-65.ensures.1 c.in_err-one-in-65.ensures
 
-pub returns-in-ok-one-3 : goal.returns-in-ok-one-3
-returns-in-ok-one-3 c =
+pub returns-in_ok-one-in-88 : goal.returns-in_ok-one-in-88
+returns-in_ok-one-in-88 c =
     let line = c.args.line.now in
-    read-good line _ c.in-Some.ensures 88 (λ d. Restart d) (32 ∷ []) (number_at line 1) refl c.in-88.is _ c.in-ok-one-3.ensures
+    read-good line _ c.in-Some.ensures 88 (λ d. Restart d) (32 ∷ []) (number_at line 1) refl c.in-88.is _ c.in_ok-one-in-88.ensures
 
-pub returns-in-err-one-3 : goal.returns-in-err-one-3
-returns-in-err-one-3 c =
+pub returns-in_err-one-in-88 : goal.returns-in_err-one-in-88
+returns-in_err-one-in-88 c =
     let line = c.args.line.now in
-    read-bad line _ c.in-Some.ensures 88 (λ d. Restart d) (32 ∷ []) (number_at line 1) refl c.in-88.is _ _ c.from-residual-in-err-one-3.ensures.1 c.in-err-one-3.ensures
+    read-bad line _ c.in-Some.ensures 88 (λ d. Restart d) (32 ∷ []) (number_at line 1) refl c.in-88.is _ _ c.from_residual-in_err-one-in-88.ensures.1 c.in_err-one-in-88.ensures
 
-pub returns-in-ok-one-4 : goal.returns-in-ok-one-4
-returns-in-ok-one-4 c =
+pub returns-in_ok-one-in-75 : goal.returns-in_ok-one-in-75
+returns-in_ok-one-in-75 c =
     let line = c.args.line.now in
-    read-good line _ c.in-Some.ensures 75 (λ d. Known d) (32 ∷ []) (number_at line 1) refl c.in-75.is _ c.in-ok-one-4.ensures
+    read-good line _ c.in-Some.ensures 75 (λ d. Known d) (32 ∷ []) (number_at line 1) refl c.in-75.is _ c.in_ok-one-in-75.ensures
 
-pub returns-in-err-one-4 : goal.returns-in-err-one-4
-returns-in-err-one-4 c =
+pub returns-in_err-one-in-75 : goal.returns-in_err-one-in-75
+returns-in_err-one-in-75 c =
     let line = c.args.line.now in
-    read-bad line _ c.in-Some.ensures 75 (λ d. Known d) (32 ∷ []) (number_at line 1) refl c.in-75.is _ _ c.from-residual-in-err-one-4.ensures.1 c.in-err-one-4.ensures
+    read-bad line _ c.in-Some.ensures 75 (λ d. Known d) (32 ∷ []) (number_at line 1) refl c.in-75.is _ _ c.from_residual-in_err-one-in-75.ensures.1 c.in_err-one-in-75.ensures
 
-pub returns-in-ok-device : goal.returns-in-ok-device
-returns-in-ok-device c =
+pub returns-in_ok-device-in-83 : goal.returns-in_ok-device-in-83
+returns-in_ok-device-in-83 c =
     let line = c.args.line.now in
-    read-good line _ c.in-Some.ensures 83 (λ p. Send p.0 p.1) (32 ∷ 32 ∷ []) (number_at line 1, number_at line 2) refl c.in-83.is _ c.in-ok-device.ensures
+    read-good line _ c.in-Some.ensures 83 (λ p. Send p.0 p.1) (32 ∷ 32 ∷ []) (number_at line 1, number_at line 2) refl c.in-83.is _ c.in_ok-device-in-83.ensures
 
-pub returns-in-err-device : goal.returns-in-err-device
-returns-in-err-device c =
+pub returns-in_err-device-in-83 : goal.returns-in_err-device-in-83
+returns-in_err-device-in-83 c =
     let line = c.args.line.now in
-    read-bad line _ c.in-Some.ensures 83 (λ p. Send p.0 p.1) (32 ∷ 32 ∷ []) (number_at line 1, number_at line 2) refl c.in-83.is _ _ c.from-residual-in-err-device.ensures.1 c.in-err-device.ensures
+    read-bad line _ c.in-Some.ensures 83 (λ p. Send p.0 p.1) (32 ∷ 32 ∷ []) (number_at line 1, number_at line 2) refl c.in-83.is _ _ c.from_residual-in_err-device-in-83.ensures.1 c.in_err-device-in-83.ensures
 
-pub returns-in-ok-device-2 : goal.returns-in-ok-device-2
-returns-in-ok-device-2 c =
+pub returns-in_ok-device-in-82 : goal.returns-in_ok-device-in-82
+returns-in_ok-device-in-82 c =
     let line = c.args.line.now in
-    read-good line _ c.in-Some.ensures 82 (λ p. Read p.0 p.1) (32 ∷ 32 ∷ []) (number_at line 1, number_at line 2) refl c.in-82.is _ c.in-ok-device-2.ensures
+    read-good line _ c.in-Some.ensures 82 (λ p. Read p.0 p.1) (32 ∷ 32 ∷ []) (number_at line 1, number_at line 2) refl c.in-82.is _ c.in_ok-device-in-82.ensures
 
-pub returns-in-err-device-2 : goal.returns-in-err-device-2
-returns-in-err-device-2 c =
+pub returns-in_err-device-in-82 : goal.returns-in_err-device-in-82
+returns-in_err-device-in-82 c =
     let line = c.args.line.now in
-    read-bad line _ c.in-Some.ensures 82 (λ p. Read p.0 p.1) (32 ∷ 32 ∷ []) (number_at line 1, number_at line 2) refl c.in-82.is _ _ c.from-residual-in-err-device-2.ensures.1 c.in-err-device-2.ensures
+    read-bad line _ c.in-Some.ensures 82 (λ p. Read p.0 p.1) (32 ∷ 32 ∷ []) (number_at line 1, number_at line 2) refl c.in-82.is _ _ c.from_residual-in_err-device-in-82.ensures.1 c.in_err-device-in-82.ensures
 
-pub returns-in-default-letter : goal.returns-in-default-letter
-returns-in-default-letter c =
+pub returns-in_default-letter : goal.returns-in_default-letter
+returns-in_default-letter c =
     let l = c.in-Some.letter in
     let line = c.args.line.now in
     ap

@@ -3,7 +3,7 @@ use Rattle.std.proofs.lemmas.List.{drop_all}
 use Rattle.script.specs.Script.{calls_of}
 use Rattle.script.proofs.Steps.{grown, next-is}
 use Rattle.script.proofs.lines.calls.Goals as goal
-use Rattle.script.proofs.lines.calls.Goals.{in-Ok+in-ok-push, in-default}
+use Rattle.script.proofs.lines.calls.Goals.{in-Ok+in_ok-push, in_default}
 
 pub loop-line-preserved : goal.loop-line-preserved
 unfolding calls_of
@@ -13,11 +13,11 @@ loop-line-preserved c =
     let was = vec_items c.loop-line.calls in
     let later = calls_of (drop (i + 1) lines) in
     elim c.match-line.branch [
-      | in-Ok+in-ok-push w ↦ grown was (vec_items c.match-line.calls) (w.in-Ok.call ∷ []) later _
-          (ap vec_items w.calls-is ∙ w.in-ok-push.ensures.items)
+      | in-Ok+in_ok-push w ↦ grown was (vec_items c.match-line.calls) (w.in-Ok.call ∷ []) later _
+          (ap vec_items w.calls-is ∙ w.in_ok-push.ensures.items)
           (ap (λ ls. was ++ calls_of ls) (sym (next-is lines i _ _ c.loop-line-test.true w.in-Ok.is)) ∙ c.loop-line.invariant)
-      | in-default w ↦ ap (λ v. vec_items v ++ later) w.calls-is
-          ∙ ap (λ ls. was ++ calls_of ls) (sym (next-is lines i _ _ c.loop-line-test.true w.in-default.is))
+      | in_default w ↦ ap (λ v. vec_items v ++ later) w.calls-is
+          ∙ ap (λ ls. was ++ calls_of ls) (sym (next-is lines i _ _ c.loop-line-test.true w.in_default.is))
           ∙ c.loop-line.invariant
     ]
 

@@ -11,11 +11,11 @@ pub loop-place-preserved : goal.loop-place-preserved
 loop-place-preserved c =
     let input = c.args.input.now in
     let place = c.loop-place.place in
-    let n = c.length-before.result in
+    let n = c.length_before.result in
     let was = vec_items c.loop-place.lines in
     grown was (vec_items c.push.new.self) (parsed_line (between place (place + n) input) ∷ []) (map parsed_line (lines_of (drop (place + n + 1) input))) _
-    (c.in-ok-push.ensures.items ∙ ap (λ x. was ++ (x ∷ [])) c.parse-line.ensures)
-    (ap (λ ls. was ++ map parsed_line ls) (sym (line-here input place n c.length-before.ensures.value c.loop-place-test.true)) ∙ c.loop-place.invariant)
+    (c.in_ok-push.ensures.items ∙ ap (λ x. was ++ (x ∷ [])) c.parse_line.ensures)
+    (ap (λ ls. was ++ map parsed_line ls) (sym (line-here input place n c.length_before.ensures.value c.loop-place-test.true)) ∙ c.loop-place.invariant)
 
 pub returns : goal.returns
 unfolding parted

@@ -5,8 +5,8 @@ use Rattle.script.specs.Numerals.{is_digit, read_on}
 use Rattle.script.proofs.Digits.{digits_more, read_more, read-grows}
 use Rattle.script.proofs.numeral.value.Goals as goal
 
-pub overflow-sub-digit : goal.overflow-sub-digit
-overflow-sub-digit c =
+pub overflow_sub-digit : goal.overflow_sub-digit
+overflow_sub-digit c =
     let f = c.args.digits.now in
     let i = c.loop-b.b-index in
     let d = get_or f i 0 in

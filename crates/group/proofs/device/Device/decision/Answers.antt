@@ -6,9 +6,9 @@ pub returns-then-self-eq1023 : goal.returns-then-self-eq1023
 unfolding decision
 returns-then-self-eq1023 g c = search rules
 
-pub returns-then-is-quorum : goal.returns-then-is-quorum
+pub returns-then-is_quorum : goal.returns-then-is_quorum
 unfolding decision
-returns-then-is-quorum g c = search rules
+returns-then-is_quorum g c = search rules
 
 pub returns : goal.returns
 unfolding decision

@@ -1,13 +1,13 @@
 use Rattle.std.proofs.Common.{◌≡◌, ◌-◌, ◌<◌, ◌≤◌, length, get_or, take, drop, fold, sym, ap, ◌∙◌, arith, length-drop}
 use Rattle.std.proofs.lemmas.List.{take_all}
-use Rattle.record.specs.Entry.{Entry, entry_of, no_value}
+use Rattle.record.specs.Entry.{Entry, no_value}
 use Rattle.record.specs.declared.kind.Kind.TheVariants.{Prepare}
 use Rattle.protocol.specs.Device.{slot_at}
 use Rattle.protocol.specs.Reading.{noted, notes_before}
 use Rattle.group.specs.Models.{device_of, log_of}
 use Rattle.group.proofs.Logs.{read-of-log, folded-part, read-entry, read-fails}
 use Rattle.group.proofs.device.Device.note_all.Goals as goal
-use Rattle.group.proofs.device.Device.note_all.Goals.{in-Ok, in-default}
+use Rattle.group.proofs.device.Device.note_all.Goals.{in-Ok, in_default}
 
 abbrev blank : Entry
 blank = record { kind = Prepare; attempt = 0; device = 0; version = 0; value = no_value }
@@ -36,7 +36,7 @@ loop-i-preserved g c =
       | in-Ok w ↦
           let q = read-entry w.in-Ok.r e (w.in-Ok.ensures ∙ read-of-log bs k i blank h) in
           w.notes-is ∙ w.note-notes.ensures ∙ ap (f c.loop-i.notes) q ∙ ap (λ x. f x e) c.loop-i.invariant ∙ sym more
-      | in-default w ↦ absurd (read-fails c.read.result e w.in-default.not-Ok r)
+      | in_default w ↦ absurd (read-fails c.read.result e w.in_default.not-Ok r)
     ]
 
 pub returns : goal.returns

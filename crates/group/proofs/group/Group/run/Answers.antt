@@ -8,7 +8,7 @@ use Rattle.group.proofs.group.Group.run.Goals as goal
 pub loop-call-init : goal.loop-call-init
 loop-call-init g c =
     let m = model_of g.A.Accounts.books g.A.Accounts.lent g.Q.Quorum.rule c.args.self.now in
-    let made = c.in-ok-answers.ensures in
+    let made = c.in_ok-answers.ensures in
     (made.len, made.capacity, (λ i. (made.items i, m)) ∙ run_none m c.args.calls.now)
 
 pub loop-call-preserved : goal.loop-call-preserved
@@ -20,15 +20,15 @@ loop-call-preserved g c =
     let next =
     run_more (model c.args.self.now) (model c.loop-call.self) (model c.call-answer.new.self) cs i (Join 0) (vec_items c.loop-call.answers) c.call-answer.result
     c.loop-call-test.true inv.2 c.call-answer.ensures in (
-      omega (arith, inv.0, c.push-reserved.ensures.len),
-      omega (arith, inv.1, c.push-reserved.ensures.capacity),
-      (λ j. (c.push-reserved.ensures.items j, model c.call-answer.new.self)) ∙ next,
+      omega (arith, inv.0, c.push_reserved.ensures.len),
+      omega (arith, inv.1, c.push_reserved.ensures.capacity),
+      (λ j. (c.push_reserved.ensures.items j, model c.call-answer.new.self)) ∙ next,
     )
 
-pub returns-in-err-answers : goal.returns-in-err-answers
-returns-in-err-answers g c =
+pub returns-in_err-answers : goal.returns-in_err-answers
+returns-in_err-answers g c =
     record {
-      run = ran-nothing (model_of g.A.Accounts.books g.A.Accounts.lent g.Q.Quorum.rule) c.args.self.now c.args.calls.now c.from-residual.result c.from-residual.ensures.0;
+      run = ran-nothing (model_of g.A.Accounts.books g.A.Accounts.lent g.Q.Quorum.rule) c.args.self.now c.args.calls.now c.from_residual.result c.from_residual.ensures.0;
       order = one-order-from _ (g.met.Q.Quorum.lawful c.args.self.now.quorum) _ _;
     }
 

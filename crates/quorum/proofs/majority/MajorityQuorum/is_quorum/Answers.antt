@@ -4,8 +4,8 @@ use Rattle.quorum.specs.Weighing.{weight-with, weight-without, members-few}
 use Rattle.quorum.proofs.majority.MajorityQuorum.is_quorum.Goals as goal
 use Rattle.quorum.proofs.majority.MajorityQuorum.is_quorum.Goals.{then-set-i, else-set-i}
 
-pub overflow-add-members : goal.overflow-add-members
-overflow-add-members c = omega (arith, members-few c.loop-i.i (marked c.args.set))
+pub overflow_add-members : goal.overflow_add-members
+overflow_add-members c = omega (arith, members-few c.loop-i.i (marked c.args.set))
 
 pub loop-i-preserved : goal.loop-i-preserved
 loop-i-preserved c =
@@ -16,5 +16,5 @@ loop-i-preserved c =
       | else-set-i w ↦ omega (arith, w.members-is, weight-without (λ _. 1) i S w.if-set-i.false)
     ]
 
-pub overflow-mul-result : goal.overflow-mul-result
-overflow-mul-result c = omega (arith, members-few c.loop-i.i (marked c.args.set))
+pub overflow_mul-result : goal.overflow_mul-result
+overflow_mul-result c = omega (arith, members-few c.loop-i.i (marked c.args.set))

@@ -12,7 +12,7 @@ loop-i-preserved c =
       simp length-set c.loop-i.invariant.0,
       below_more _ _ (λ k l. let n : k ≢ i = omega arith in rw get_or-set_other (c.loop-i.invariant.1 k l)) (rw get_or-set_same),
       omega (arith, weight-with (weight_in c.args.weights.now) i everyone refl),
-      omega (arith, c.type-inv.weights i),
+      omega (arith, c.type_inv.weights i),
     )
 
 -- all weights are held once the loop ends
@@ -24,14 +24,14 @@ total-is c =
     let e : c.loop-i.i ≡ length c.args.weights.now = omega arith in
     c.loop-i.invariant.2 ∙ ap (λ n. weight (weight_in c.args.weights.now) n everyone) e
 
-pub invariant-of-result : goal.invariant-of-result
-invariant-of-result c = (
-  (c.if-n-lt1.false, c.if-n-gt7.false),
-  (
-    c.loop-i.invariant.0,
-    (total-is c ∙ sym (weight-same _ _ (length c.args.weights.now) everyone (held c)), (omega arith, tt)),
-  ),
-)
+pub invariant_of-result : goal.invariant_of-result
+invariant_of-result c =
+    record {
+      size_in = (c.if-n-lt1.false, c.if-n-gt7.false);
+      seven = c.loop-i.invariant.0;
+      adds_up = total-is c ∙ sym (weight-same _ _ (length c.args.weights.now) everyone (held c));
+      heavy = omega arith;
+    }
 
 pub returns : goal.returns
 returns c =

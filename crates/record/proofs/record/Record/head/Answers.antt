@@ -1,4 +1,4 @@
-use Rattle.std.proofs.Common.{◌≡◌, ◌+◌, ◌*◌, ◌^◌, ◌<◌, ap, ◌∙◌, arith}
+use Rattle.std.proofs.Common.{◌+◌, ◌*◌, ◌^◌, ◌<◌, ap, ◌∙◌, arith}
 use Rattle.record.proofs.Packing.{head-is}
 use Rattle.record.proofs.Trips.{kind-small}
 use Rattle.record.proofs.record.Record.head.Goals as goal

@@ -16,7 +16,7 @@ returns c =
     let k = c.args.place in
     let h : k < s.used = omega arith in
     let n : k * 16 + 16 - k * 16 ≡ 16 = omega arith in
-    c.from-bytes.ensures.value
+    c.from_bytes.ensures.value
     ∙ ap (λ x. decoded (take x (drop (k * 16) s.area.now))) n
     ∙ decoded-ok (slot s.area.now k) (s.sound k h)
     ∙ sym (placed-read (record_at s.area.now) s.used k h)
