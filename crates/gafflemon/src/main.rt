@@ -1,4 +1,6 @@
 // Plays a script from standard input on three new accounts, and prints the answer to each line.
+#![tactic(auto)]
+
 use script::respond::respond;
 use std::io;
 use std::io::Read;

@@ -1,4 +1,6 @@
 // Runs a group to the ends of its numbers, where no script can bring it.
+#![tactic(auto)]
+
 use account::account::Account;
 use account::accounts::Accounts;
 use account::end::End;

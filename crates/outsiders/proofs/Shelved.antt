@@ -1,12 +1,12 @@
 -- A list of which the first n are records, as a book. Assumes nothing.
-use Rattle.std.proofs.Common.{◌≡◌, ℕ, ◌+◌, ◌<◌, ◌≤◌, true, false, eqb, List, [], ◌∷◌, ◌++◌, map, length, get_or, take, set, Ok, Err, sym, refl, ap, ◌∙◌, arith, length-take-le, get_or-take}
+use Rattle.std.proofs.Common.{◌≡◌, ℕ, ◌+◌, ◌<◌, ◌≤◌, false, eqb, List, map, length, get_or, take, set, Ok, Err, sym, refl, ap, ◌∙◌, arith, length-take-le, get_or-take}
 use lib.ListN.{length-map}
 use Rattle.std.proofs.lemmas.List.{take_more_set, map_push, get_or-map}
 use Rattle.std.proofs.lemmas.Bool.{eq-eqb, ne_eqb}
 use Rattle.record.specs.Entry.{Entry, entry_of}
 use Rattle.record.specs.declared.record.Record.{Record}
 use Rattle.record.specs.declared.refusal.Refusal.TheVariants.{Full, PastEnd}
-use Rattle.account.specs.Books.{Book, appended, fetched}
+use Rattle.account.specs.Books.{appended, fetched}
 use Rattle.account.proofs.Reading.{fetched-in, fetched-past}
 
 module _ (xs : List Record) (n : ℕ) (h : n ≤ length xs) where

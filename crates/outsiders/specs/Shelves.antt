@@ -1,5 +1,5 @@
 -- What a shelf means, and the outsider's accounts side by side.
-use Rattle.std.specs.Prelude.{ℕ, ◌≤◌, [], ◌∷◌, map, length, take}
+use Rattle.std.specs.Prelude.{[], ◌∷◌, map, take}
 use Rattle.std.proofs.Common.{arith, length-take}
 use Rattle.std.proofs.lemmas.List.{length-map}
 use Rattle.record.specs.Entry.{entry_of}

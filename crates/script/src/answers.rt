@@ -38,7 +38,11 @@ fn write_answer(out: &mut String, answer: Answer) -> Result<(), AllocError>
 }
 
 // The refusals of lines and the answers to calls, each on a line, in the order of the script.
-fn write_lines(out: &mut String, lines: &[Result<Call, Refusal>], answers: &[Answer]) -> Result<(), AllocError>
+fn write_lines(
+    out: &mut String,
+    lines: &[Result<Call, Refusal>],
+    answers: &[Answer],
+) -> Result<(), AllocError>
     ensures { OnOk result (string_bytes out.new ≡ string_bytes out.old ++ shown lines.now answers.now) }
 {
     let mut next = 0;

@@ -1,4 +1,6 @@
 // The script: lines of text to calls, and answers to lines of text.
+#![tactic(auto)]
+
 pub mod answers;
 pub mod command;
 pub mod cut;

@@ -1,4 +1,6 @@
 // Replays the stored runs of the bench, and says of each whether it prints what is stored.
+#![tactic(auto)]
+
 use script::respond::respond;
 use std::{fs, io};
 

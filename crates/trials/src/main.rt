@@ -1,4 +1,6 @@
 // Random runs of groups against a separate, simple model of what they should do.
+#![tactic(auto)]
+
 mod compare;
 mod dice;
 mod history;
