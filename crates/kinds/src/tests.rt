@@ -39,8 +39,8 @@ fn bytes(rt: HostRuntime) -> Result<(), Fail> {
     let mut area = [255; 32];
     assert_eq!(rt; store(&mut area, &r), Ok(1));
     let (written, rest) = area.split_at(16);
-    assert_eq!(rt; written, &r.to_bytes());
-    assert_eq!(rt; rest, &[255; 16]);
+    assert_eq!(rt; written, r.to_bytes().as_slice());
+    assert_eq!(rt; rest, [255; 16].as_slice());
     Ok(())
 }
 

@@ -1,4 +1,6 @@
 // Runs scripts through parsing and printing, with the answers given; the crate below is proved without them.
+#![tactic(auto)]
+
 use protocol::answer::Answer;
 use protocol::call::Call;
 use protocol::outcome::Outcome;
@@ -119,7 +121,7 @@ fn long_inputs(rt: HostRuntime) -> Result<(), Fail> {
 fn tokens(rt: HostRuntime) -> Result<(), Fail> {
     match token(b"P 1 0 500 7", 3) {
         Some(Token::Number { bytes, place }) => {
-            assert!(rt; bytes == b"500" && place == 6);
+            assert!(rt; bytes == b"500".as_slice() && place == 6);
             Ok(())
         },
         _ => Err(Fail::new("no number")),
