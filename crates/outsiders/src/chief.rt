@@ -1,6 +1,6 @@
 ghost use Rattle.std.specs.Prelude.{◌≤◌};
 ghost use Rattle.outsiders.specs.Chiefs.{chief};
-ghost use Rattle.std.proofs.Common.{rules, arith};
+ghost use Rattle.std.proofs.Common.{rules};
 
 use quorum::quorum::Quorum;
 
@@ -14,7 +14,7 @@ pub struct Chief {
 impl Quorum for Chief {
     ghost rule = { λ c. chief c.accounts };
 
-    ghost lawful = { first_of (Prim.search rules, Prim.grind (arith, Self.row.coded.inj)) };
+    ghost lawful = { Prim.search rules };
 
     fn size(&self) -> usize {
         self.accounts
