@@ -15,46 +15,46 @@ use quorum::quorum::Quorum;
 use record::refusal::Refusal;
 use std::alloc::{AllocError, Global};
 
-fn done(res: Result<(), Refusal>) -> Answer
-    ensures { result ≡ answer_by (λ _. Done) res }
+fn done(reply: Result<(), Refusal>) -> Answer
+    ensures { result ≡ answer_by (λ _. Done) reply }
 {
-    match res {
+    match reply {
         Ok(()) => Answer::Done,
         Err(refusal) => Answer::Refused(refusal),
     }
 }
 
-fn attempt(res: Result<u16, Refusal>) -> Answer
-    ensures { result ≡ answer_by Attempt res }
+fn attempt(reply: Result<u16, Refusal>) -> Answer
+    ensures { result ≡ answer_by Attempt reply }
 {
-    match res {
+    match reply {
         Ok(attempt) => Answer::Attempt(attempt),
         Err(refusal) => Answer::Refused(refusal),
     }
 }
 
-fn length(res: Result<usize, Refusal>) -> Answer
-    ensures { result ≡ answer_by Length res }
+fn length(reply: Result<usize, Refusal>) -> Answer
+    ensures { result ≡ answer_by Length reply }
 {
-    match res {
+    match reply {
         Ok(length) => Answer::Length(length),
         Err(refusal) => Answer::Refused(refusal),
     }
 }
 
-fn taken(res: Result<(usize, Outcome), Refusal>) -> Answer
-    ensures { result ≡ answer_by (λ t. Taken t.0 t.1) res }
+fn taken(reply: Result<(usize, Outcome), Refusal>) -> Answer
+    ensures { result ≡ answer_by (λ t. Taken t.0 t.1) reply }
 {
-    match res {
+    match reply {
         Ok((count, outcome)) => Answer::Taken(count, outcome),
         Err(refusal) => Answer::Refused(refusal),
     }
 }
 
-fn holds(res: Result<Version, Refusal>) -> Answer
-    ensures { result ≡ answer_by Holds res }
+fn holds(reply: Result<Version, Refusal>) -> Answer
+    ensures { result ≡ answer_by Holds reply }
 {
-    match res {
+    match reply {
         Ok(version) => Answer::Holds(version),
         Err(refusal) => Answer::Refused(refusal),
     }

@@ -1,4 +1,4 @@
--- What sets weigh, and that two sets of more than half the weight share an account. Assumes nothing.
+-- What sets weigh, and that two sets of more than half the weight share an account: proofs that the rules carry, and nothing to believe.
 use Rattle.std.specs.Prelude.{◌≡◌, ℕ, zero, suc, ◌+◌, ◌*◌, ◌<◌, ◌≤◌, Bool, true, false, cond, ◌⊎◌, nat_lt}
 use Rattle.std.proofs.Math.Path.{refl}
 use Rattle.std.proofs.Common.{subst, zero-le, add-one}

@@ -216,8 +216,8 @@ pub fn device_of(call: Call) -> u32 {
     }
 }
 
-fn answered(res: Result<Answer, Refusal>) -> Answer {
-    match res {
+fn answered(reply: Result<Answer, Refusal>) -> Answer {
+    match reply {
         Ok(answer) => answer,
         Err(refusal) => Answer::Refused(refusal),
     }
