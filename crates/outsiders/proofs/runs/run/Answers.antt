@@ -16,4 +16,5 @@ returns c =
     record {
       answers = replay.run.0 ∙ ap (λ (bs : List Book). (runs (chief 2) (new_state bs) cs).0) books;
       order = subst (λ (bs : List Book). OneOrder (chief 2) (new_state bs) cs) books replay.order;
+      not_made = tt;
     }
