@@ -25,4 +25,4 @@ founding_by (Err d) = Err d
 abbrev pub NotMade : {A : Type 0} → Result Rule Refusal → Result A NotRun → Type 0
 NotMade rule (Ok _) = Unit
 NotMade rule (Err (Refused d)) = Err d ≡ founding_by rule
-NotMade rule (Err NoMemory) = founding_by rule ≡ Ok tt
+NotMade rule (Err (NoMemory e)) = founding_by rule ≡ Ok tt

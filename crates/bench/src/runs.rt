@@ -55,10 +55,7 @@ pub fn run(heap: Global, calls: &[Call]) -> Result<Vec<Answer>, NotRun>
     ensures order { OnOk result (OneOrder (majority 3) three_accounts calls.now) }
     ensures not_made { NotMade (Ok (majority 3)) result }
 {
-    match Majority::new(3) {
-        Ok(quorum) => run_with(heap, quorum, calls),
-        Err(refusal) => Err(NotRun::Refused(refusal)),
-    }
+    run_with(heap, Majority::new(3)?, calls)
 }
 
 // The same counted by weight, one weight for each account.
@@ -67,8 +64,5 @@ pub fn run_by_weight(heap: Global, weights: &[u8], calls: &[Call]) -> Result<Vec
     ensures order { OnOk result (OneOrder (weighted (weight_in weights.now) (length weights.now)) three_accounts calls.now) }
     ensures not_made { NotMade (weighted_by weights.now) result }
 {
-    match Weighted::new(weights) {
-        Ok(quorum) => run_with(heap, quorum, calls),
-        Err(refusal) => Err(NotRun::Refused(refusal)),
-    }
+    run_with(heap, Weighted::new(weights)?, calls)
 }

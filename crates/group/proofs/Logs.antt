@@ -1,5 +1,6 @@
 -- Reading the log of one account of several, record by record. Assumes nothing.
 use Rattle.std.proofs.Common.{◌≡◌, ℕ, zero, suc, ◌+◌, ◌-◌, ◌<◌, ◌≤◌, List, [], ◌∷◌, length, get_or, take, drop, Ok, Err, fold, Result, refl, ap, ◌∙◌, arith, length-drop, get_or-drop}
+use Rattle.std.specs.Result.{result_unwrap_or}
 use Rattle.std.proofs.lemmas.List.Sums.{fold_more}
 use Rattle.record.specs.Entry.{Entry, entry_of, entry_in}
 use Rattle.record.specs.declared.record.Record.{Record}
@@ -12,15 +13,10 @@ clash : ◌≡◌ {A = ℕ} 0 1 → ⊥
 clash e = omega arith
 
 -- the length that the accounts answer is the log's; where there is no account the log is empty
-pub length-of-log : (bs : List Book) (k n : ℕ) → Ok n ≡ length_at bs k → n ≡ length (log_of bs k)
-length-of-log [] k n e = let z : ◌≡◌ {A = ℕ} 0 1 = cc in absurd (clash z)
-length-of-log (b ∷ bs) zero n e = cc
-length-of-log (b ∷ bs) (suc k) n e = length-of-log bs k n e
-
-pub no-log : (bs : List Book) (k : ℕ) (d : Refusal) → Err d ≡ length_at bs k → 0 ≡ length (log_of bs k)
-no-log [] k d e = refl
-no-log (b ∷ bs) zero d e = let z : ◌≡◌ {A = ℕ} 0 1 = cc in absurd (clash z)
-no-log (b ∷ bs) (suc k) d e = no-log bs k d e
+pub log-long : (bs : List Book) (k : ℕ) → result_unwrap_or (length_at bs k) 0 ≡ length (log_of bs k)
+log-long [] k = refl
+log-long (b ∷ bs) zero = refl
+log-long (b ∷ bs) (suc k) = log-long bs k
 
 pub read-of-log : (bs : List Book) (k i : ℕ) (d : Entry) → i < length (log_of bs k) → fetched_at bs k i ≡ Ok (get_or (log_of bs k) i d)
 read-of-log [] k i d h = absurd (omega arith)

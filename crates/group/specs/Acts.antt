@@ -10,11 +10,10 @@ use Rattle.protocol.specs.declared.call.Call.{Call}
 use Rattle.protocol.specs.declared.outcome.Outcome.{Outcome}
 use Rattle.protocol.specs.declared.version.Version.{Version}
 use Rattle.group.specs.Models.{Model}
-use Rattle.group.specs.declared.group.Group.{Group}
 
 -- the group m once its state has become that of r
 abbrev pub leaves : {Y : Type 0} → Model → Y × State → Y × Model
-leaves m r = (r.0, record { rule = m.rule; lent = m.lent; state = r.1 })
+leaves m r = (r.0, record m { state = r.1 })
 
 abbrev pub Act : Type 0 → Type 0
 Act X = Result X Refusal × Model
@@ -50,11 +49,7 @@ steps m c = leaves m (step m.rule m.state c)
 abbrev pub runs_on : Model → List Call → List Answer × Model
 runs_on m cs = leaves m (runs m.rule m.state cs)
 
--- a call on a group, which is `before` and then `after`, is answered r: answer and group are those of the act
-abbrev pub Does : {A Q X : Type 0} → (Group A Q → Model) → Group A Q → Group A Q → X → (Model → X × Model) → Type 0
-Does model before after r act = (r, model after) ≡ act (model before)
-
--- the calls cs are made and answered so; without memory for the answers nothing changes
-abbrev pub Ran : {A Q Z E : Type 0} → (Group A Q → Model) → Group A Q → Group A Q → List Call → Result (Vec Answer Z) E → Type 0
-Ran model before after cs (Ok v) = (vec_items v, model after) ≡ runs_on (model before) cs
-Ran model before after cs (Err e) = model after ≡ model before
+-- the calls cs make the group `before` the group `after` and are answered so; without memory for the answers nothing changes
+abbrev pub Ran : {Z E : Type 0} → Model → Model → List Call → Result (Vec Answer Z) E → Type 0
+Ran before after cs (Ok v) = (vec_items v, after) ≡ runs_on before cs
+Ran before after cs (Err e) = after ≡ before

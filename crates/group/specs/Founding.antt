@@ -33,4 +33,4 @@ abbrev pub Replayed : Rule → List Book → List Call → Result Replay NotRun 
 Replayed R bs cs (Ok p) =
     (vec_items p.answers ≡ (runs R (new_state bs) cs).0) × (devices_of p.devices ≡ (runs R (new_state bs) cs).1.devices)
 Replayed R bs cs (Err (Refused d)) = Err d ≡ founding R bs
-Replayed R bs cs (Err NoMemory) = founding R bs ≡ Ok tt
+Replayed R bs cs (Err (NoMemory e)) = founding R bs ≡ Ok tt

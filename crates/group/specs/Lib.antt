@@ -1,4 +1,4 @@
-pub mod Marks
+pub mod Numbers
 pub mod Models
 pub mod Acts
 pub mod Founding

@@ -1,5 +1,5 @@
 -- What the program's records mean: the states of the protocol.
-use Rattle.std.specs.Prelude.{ℕ, Bool, false, cond, List, [], ◌∷◌, map, get_or, Some, None, Ok, Err, Option, Result, nat_lt, slice_index_or, slice_set}
+use Rattle.std.specs.Prelude.{ℕ, false, cond, List, [], ◌∷◌, map, Some, None, Ok, Err, Option, Result, nat_lt, slice_index_or, slice_set}
 use Rattle.record.specs.Checks.{when, unless}
 use Rattle.record.specs.Entry.{Entry}
 use Rattle.record.specs.declared.refusal.Refusal.{Refusal}
@@ -11,7 +11,6 @@ use Rattle.protocol.specs.State.{State, no_book}
 use Rattle.protocol.specs.Device as model
 use Rattle.protocol.specs.Reading.{notes_after}
 use Rattle.protocol.specs.declared.notes.Notes.{Notes}
-use Rattle.protocol.specs.declared.slot.Slot.{Slot}
 use Rattle.group.specs.declared.device.Device.{Device}
 use Rattle.group.specs.declared.group.Group.{Group}
 use Rattle.group.specs.declared.table.DeviceTable.{DeviceTable}
@@ -49,20 +48,16 @@ abbrev pub next_in : model.Device → Result ℕ Refusal
 next_in v = unless (when (nat_lt model.last_attempt (model.next_attempt v)) NoAttemptLeft ∷ []) (model.next_attempt v)
 
 abbrev pub log_of : List Book → ℕ → List Entry
-log_of bs k = (get_or bs k no_book).log
+log_of bs k = (slice_index_or bs k no_book).log
 
 -- what device d has noted of account k of several, once it has read to the end
 abbrev pub notes_from : ℕ → model.Device → List Book → ℕ → Notes
 notes_from d v bs k = notes_after d v k (log_of bs k)
 
--- a slot without its sent mark, and without its own mark too if b
-abbrev pub cleared : Bool → Slot → Slot
-cleared b s = record { place = s.place; view = s.view; sent = false; own = cond b false s.own }
-
 -- account k is read up to a place, with these notes
 abbrev pub caught_up_to : model.Device → ℕ → ℕ → Notes → model.Device
 caught_up_to v k place n =
-    model.with_slot v k (record { place = place; view = n.view; sent = (model.slot_at v k).sent; own = n.own }) n.seen
+    model.with_slot v k (record (model.slot_at v k) { place = place; view = n.view; own = n.own }) n.seen
 
 -- device d begins its next attempt for the value x, unless there is none
 abbrev pub attempted_in : DeviceTable → ℕ → Value → Result ℕ Refusal × List model.Device

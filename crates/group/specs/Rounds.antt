@@ -1,11 +1,9 @@
--- The calls of a round's passes, and its orders as a caller passes them.
-use Rattle.std.specs.Prelude.{ℕ}
+-- The orders of a round as a caller passes them.
+use Rattle.std.specs.Prelude.{◌≡◌, ℕ, List, ◌++◌}
+use Rattle.std.specs.List.{AllZip}
 use Rattle.protocol.specs.Rounds as round
 use Rattle.protocol.specs.declared.call.Call.{Call}
-use Rattle.protocol.specs.declared.call.Call.TheVariants as call
 use Rattle.group.specs.declared.round.Orders.{Orders}
-use Rattle.group.specs.declared.round.Pass.{Pass}
-use Rattle.group.specs.declared.round.Pass.TheVariants.{Read, Send}
 
 abbrev pub orders_of : Orders → round.Orders
 orders_of o =
@@ -17,6 +15,6 @@ orders_of o =
       fifth = o.fifth.now;
     }
 
-abbrev pub pass_call : Pass → ℕ → ℕ → Call
-pass_call Read d k = call.Read d k
-pass_call Send d k = call.Send d k
+-- after the calls `old` stands one for each account, of which P holds, and nothing else
+abbrev pub AddsEach : (ℕ → Call → Type 0) → List ℕ → List Call → List Call → Type 0
+AddsEach P accounts old new = (calls : List Call) × (new ≡ old ++ calls) × AllZip P accounts calls

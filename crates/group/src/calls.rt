@@ -1,197 +1,120 @@
-ghost use Rattle.group.specs.Acts.{Does, joins, links, proposes, sends, reads, agains, restarts, knows};
-ghost use Rattle.group.specs.Models.{model_of};
+ghost use Rattle.std.specs.Prelude.{◌≡◌, MatchResult};
+ghost use Rattle.protocol.specs.Chain.{OneOrderFrom};
+ghost use Rattle.protocol.specs.Rounds.{round, Orderly, RoundEndsFrom};
+ghost use Rattle.quorum.specs.Rules.{Set, Lawful};
+ghost use Rattle.group.specs.Acts.{joins, links, proposes, sends, reads, agains, restarts, knows, steps, Ran};
+ghost use Rattle.group.specs.Models.{Model};
+ghost use Rattle.group.specs.Rounds.{orders_of};
 
-use crate::device::Device;
-use crate::group::Group;
-use crate::reading::log_length;
-use account::accounts::Accounts;
-use protocol::link::Link;
+use crate::round::{Orders, round_calls};
+use protocol::answer::Answer;
+use protocol::call::Call;
 use protocol::outcome::Outcome;
-use protocol::phase::Phase;
 use protocol::version::Version;
-use quorum::quorum::Quorum;
 use record::refusal::Refusal;
 use record::value::Value;
+use std::alloc::{AllocError, Global};
 
-impl<A: Accounts, Q: Quorum> Group<A, Q> {
+fn answer<T, F: FnOnce(T) -> Answer>(reply: Result<T, Refusal>, granted: F) -> Answer
+    requires { F.IsAlwaysCallable granted }
+    ensures { MatchResult reply (λ x. F.post granted x result) (λ refusal. result ≡ Answer.Refused refusal) }
+{
+    reply.map_or_else(Answer::Refused, granted)
+}
+
+// Devices that share accounts. Each call, refused or not, is answered and leaves what the protocol says, and nothing else.
+pub trait Calls {
+    ghost model: { Self → Model };
+
     // Enters a device.
-    pub fn join(&mut self, device: u32) -> Result<(), Refusal>
-        ensures { Does (model_of A.Accounts.books A.Accounts.lent Q.Quorum.rule) self.old self.new result (λ m. joins m device) }
-    {
-        if device > 15 {
-            return Err(Refusal::NoSuchDevice);
-        }
-        let d = device as usize;
-        if self.table.get(d).joined {
-            return Err(Refusal::AlreadyJoined);
-        }
-        self.table.put(d, Device::new(true));
-        Ok(())
-    }
+    fn join(&mut self, device: u32) -> Result<(), Refusal>
+        ensures { (result, model self.new) ≡ joins (model self.old) device };
 
     // Sets one link of one device: 0 up, 1 down, 2 replies lost.
-    pub fn link(&mut self, device: u32, account: u32, state: u32) -> Result<(), Refusal>
-        ensures { Does (model_of A.Accounts.books A.Accounts.lent Q.Quorum.rule) self.old self.new result (λ m. links m device account state) }
-    {
-        if device > 15 {
-            return Err(Refusal::NoSuchDevice);
-        }
-        let d = device as usize;
-        if !self.table.get(d).joined {
-            return Err(Refusal::NotJoined);
-        }
-        if account as usize >= self.quorum.size() {
-            return Err(Refusal::NoSuchAccount);
-        }
-        match Link::from_number(state) {
-            Ok(link) => {
-                self.table.set_link(d, account as usize, link);
-                Ok(())
-            }
-            Err(refusal) => Err(refusal),
-        }
-    }
+    fn link(&mut self, device: u32, account: u32, state: u32) -> Result<(), Refusal>
+        ensures { (result, model self.new) ≡ links (model self.old) device account state };
 
     // Opens a proposal for the version after base, and answers the attempt.
-    pub fn propose(&mut self, device: u32, base: u32, value: Value) -> Result<u16, Refusal>
-        ensures { Does (model_of A.Accounts.books A.Accounts.lent Q.Quorum.rule) self.old self.new result (λ m. proposes m device base value) }
-    {
-        if device > 15 {
-            return Err(Refusal::NoSuchDevice);
-        }
-        let d = device as usize;
-        let row = self.table.get(d);
-        if !row.joined {
-            return Err(Refusal::NotJoined);
-        }
-        match row.phase {
-            Phase::Idle => {}
-            Phase::Preparing | Phase::Accepting => return Err(Refusal::ProposalOpen),
-        }
-        if base != row.known as u32 {
-            return Err(Refusal::OtherBase);
-        }
-        if row.known == 1023 {
-            return Err(Refusal::LastVersion);
-        }
-        self.table.attempt_next(d, value)
-    }
+    fn propose(&mut self, device: u32, base: u32, value: Value) -> Result<u16, Refusal>
+        ensures { (result, model self.new) ≡ proposes (model self.old) device base value };
 
     // Tries an open proposal again under a new attempt, which it answers.
-    pub fn again(&mut self, device: u32) -> Result<u16, Refusal>
-        ensures { Does (model_of A.Accounts.books A.Accounts.lent Q.Quorum.rule) self.old self.new result (λ m. agains m device) }
-    {
-        if device > 15 {
-            return Err(Refusal::NoSuchDevice);
-        }
-        let d = device as usize;
-        let row = self.table.get(d);
-        if !row.joined {
-            return Err(Refusal::NotJoined);
-        }
-        match row.phase {
-            Phase::Idle => Err(Refusal::NoProposal),
-            Phase::Preparing | Phase::Accepting => self.table.attempt_next(d, row.proposed),
-        }
-    }
+    fn again(&mut self, device: u32) -> Result<u16, Refusal>
+        ensures { (result, model self.new) ≡ agains (model self.old) device };
 
     // Appends the request of a device's open proposal to an account, and answers the account's new length.
-    pub fn send(&mut self, device: u32, account: u32) -> Result<usize, Refusal>
-        ensures { Does (model_of A.Accounts.books A.Accounts.lent Q.Quorum.rule) self.old self.new result (λ m. sends m device account) }
-    {
-        if device > 15 {
-            return Err(Refusal::NoSuchDevice);
-        }
-        let mut row = self.table.get(device as usize);
-        if !row.joined {
-            return Err(Refusal::NotJoined);
-        }
-        let k = account as usize;
-        if k >= self.quorum.size() {
-            return Err(Refusal::NoSuchAccount);
-        }
-        if let Phase::Idle = row.phase {
-            return Err(Refusal::NoProposal);
-        }
-        if row.slots[k].sent {
-            return Err(Refusal::AlreadySent);
-        }
-        let lost = match row.links[k] {
-            Link::Up => false,
-            Link::Down => return Err(Refusal::LinkDown),
-            Link::RepliesLost => true,
-        };
-        let answer = self.accounts.append(k, &row.request(device as u8));
-        if lost {
-            return Err(Refusal::RepliesLost);
-        }
-        match answer {
-            Ok(length) => {
-                row.slots[k].sent = true;
-                self.table.put(device as usize, row);
-                Ok(length)
-            }
-            Err(refusal) => Err(refusal),
-        }
-    }
+    fn send(&mut self, device: u32, account: u32) -> Result<usize, Refusal>
+        ensures { (result, model self.new) ≡ sends (model self.old) device account };
 
     // Takes all records of an account from the device's place on. Answers how many, and what the device concludes.
-    pub fn read(&mut self, device: u32, account: u32) -> Result<(usize, Outcome), Refusal>
-        ensures { Does (model_of A.Accounts.books A.Accounts.lent Q.Quorum.rule) self.old self.new result (λ m. reads m device account) }
-    {
-        if device > 15 {
-            return Err(Refusal::NoSuchDevice);
-        }
-        let mut row = self.table.get(device as usize);
-        if !row.joined {
-            return Err(Refusal::NotJoined);
-        }
-        let k = account as usize;
-        if k >= self.quorum.size() {
-            return Err(Refusal::NoSuchAccount);
-        }
-        match row.links[k] {
-            Link::Up => {}
-            Link::Down => return Err(Refusal::LinkDown),
-            Link::RepliesLost => return Err(Refusal::RepliesLost),
-        }
-        let end = log_length(&self.accounts, k);
-        let count = end.saturating_sub(row.slots[k].place);
-        row.catch_up(k, end, row.note_all(device as u8, &self.accounts, k, end));
-        let outcome = row.conclude(&self.quorum, device as u8);
-        self.table.put(device as usize, row);
-        Ok((count, outcome))
-    }
+    fn read(&mut self, device: u32, account: u32) -> Result<(usize, Outcome), Refusal>
+        ensures { (result, model self.new) ≡ reads (model self.old) device account };
 
     // Keeps its attempt, what it holds and its links; everything else is as after joining.
-    pub fn restart(&mut self, device: u32) -> Result<(), Refusal>
-        ensures { Does (model_of A.Accounts.books A.Accounts.lent Q.Quorum.rule) self.old self.new result (λ m. restarts m device) }
-    {
-        if device > 15 {
-            return Err(Refusal::NoSuchDevice);
-        }
-        let d = device as usize;
-        if !self.table.get(d).joined {
-            return Err(Refusal::NotJoined);
-        }
-        self.table.restart(d);
-        Ok(())
-    }
+    fn restart(&mut self, device: u32) -> Result<(), Refusal>
+        ensures { (result, model self.new) ≡ restarts (model self.old) device };
 
     // The version that a device holds.
-    pub fn known(&self, device: u32) -> Result<Version, Refusal>
-        ensures { Does (model_of A.Accounts.books A.Accounts.lent Q.Quorum.rule) self.now self.now result (λ m. knows m device) }
+    fn known(&self, device: u32) -> Result<Version, Refusal>
+        ensures { (result, model self.now) ≡ knows (model self.now) device };
+
+    ghost lawful: { (g : Self) → Lawful (model g).rule };
+
+    // Makes one call.
+    final fn call(&mut self, call: Call) -> Answer
+        ensures { (result, model self.new) ≡ steps (model self.old) call }
     {
-        if device > 15 {
-            return Err(Refusal::NoSuchDevice);
+        match call {
+            Call::Join { device } => answer(self.join(device), |()| Answer::Done),
+            Call::SetLink {
+                device,
+                account,
+                state,
+            } => answer(self.link(device, account, state), |()| Answer::Done),
+            Call::Propose {
+                device,
+                base,
+                value,
+            } => answer(self.propose(device, base, value), Answer::Attempt),
+            Call::Send { device, account } => answer(self.send(device, account), Answer::Length),
+            Call::Read { device, account } => answer(
+                self.read(device, account),
+                |(count, outcome)| Answer::Taken(count, outcome),
+            ),
+            Call::Again { device } => answer(self.again(device), Answer::Attempt),
+            Call::Restart { device } => answer(self.restart(device), |()| Answer::Done),
+            Call::Known { device } => answer(self.known(device), Answer::Holds),
         }
-        let row = self.table.get(device as usize);
-        if !row.joined {
-            return Err(Refusal::NotJoined);
+    }
+
+    // Makes a list of calls in turn. Without memory for the answers it makes none.
+    // Whatever calls to a new group led here, their proposals and these have one order.
+    final fn run(&mut self, heap: Global, calls: &[Call]) -> Result<Vec<Answer>, AllocError>
+        ensures run { Ran (model self.old) (model self.new) calls.now result }
+        ensures order { OneOrderFrom (model self.old).rule (model self.old).state calls.now }
+    {
+        let mut answers = Vec::with_capacity(heap, calls.len())?;
+        for call in calls {
+            let answer = self.call(*call);
+            answers.push_reserved(answer);
         }
-        Ok(Version {
-            number: row.known,
-            value: row.value,
-        })
+        Ok(answers)
+    }
+
+    // Makes the calls of a device's round. Without memory it makes none.
+    // Whatever calls to a new group led here: where the orders are of one quorum whose accounts the device reaches and that have room
+    // for two records each, and the last attempt was not used, the round answers the device's open proposal.
+    final fn round(
+        &mut self,
+        heap: Global,
+        device: u32,
+        orders: &Orders<'_>,
+    ) -> Result<Vec<Answer>, AllocError>
+        ensures run { Ran (model self.old) (model self.new) (round device (orders_of orders.now)) result }
+        ensures ends { (S : Set) → Orderly (model self.old).rule S (orders_of orders.now)
+            → RoundEndsFrom (model self.old).rule (model self.old).state device S (orders_of orders.now) }
+    {
+        let calls = round_calls(heap, device, orders)?;
+        self.run(heap, calls.as_slice())
     }
 }

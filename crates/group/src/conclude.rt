@@ -3,9 +3,9 @@ ghost use Rattle.protocol.specs.Deciding.{choice, decision, undecided, concluded
 ghost use Rattle.protocol.specs.Device.{carrying};
 ghost use Rattle.group.specs.Models.{device_of, caught_up_to};
 
-use crate::changes::all_cleared;
+use crate::account_number::AccountNumber;
 use crate::device::Device;
-use crate::mark::Mark;
+use crate::device_number::DeviceNumber;
 use crate::tally::{accepted_by_quorum, any_above, highest_accepted};
 use protocol::notes::Notes;
 use protocol::outcome::Outcome;
@@ -16,17 +16,13 @@ use record::value::Value;
 
 impl Device {
     // Keeps what was noted of account k up to its end.
-    pub(crate) fn catch_up(&mut self, k: usize, end: usize, notes: Notes)
-        requires { k < 7 }
-        ensures { device_of self.new ≡ caught_up_to (device_of self.old) k end notes }
+    pub(crate) fn catch_up(&mut self, k: AccountNumber, end: usize, notes: Notes)
+        ensures { device_of self.new ≡ caught_up_to (device_of self.old) k.number end notes }
     {
-        let slots = self.slots;
-        self.slots[k] = Slot {
-            place: end,
-            view: notes.view,
-            sent: slots[k].sent,
-            own: notes.own,
-        };
+        let slot = &mut self.slots[k.number];
+        slot.place = end;
+        slot.view = notes.view;
+        slot.own = notes.own;
         self.seen = notes.seen;
     }
 
@@ -38,7 +34,7 @@ impl Device {
         if self.known == 1023 {
             return None;
         }
-        if quorum.is_quorum(Mark::Own.set(&self.slots)) {
+        if quorum.is_quorum(self.slots.map(|slot| slot.own)) {
             return Some(self.carried);
         }
         accepted_by_quorum(quorum, &self.slots)
@@ -62,13 +58,15 @@ impl Device {
     {
         self.carried = value;
         self.phase = Phase::Accepting;
-        self.slots = all_cleared(self.slots, false);
+        self.slots = self.slots.map(|slot| Slot {
+            sent: false,
+            ..slot
+        });
     }
 
     // While nothing is decided, as device d.
-    fn go_on<Q: Quorum>(&mut self, quorum: &Q, d: u8) -> Outcome
-        requires { d < 16 }
-        ensures { (result, device_of self.new) ≡ undecided (Q.Quorum.rule quorum.now) d (device_of self.old) }
+    fn go_on<Q: Quorum>(&mut self, quorum: &Q, d: DeviceNumber) -> Outcome
+        ensures { (result, device_of self.new) ≡ undecided (Q.Quorum.rule quorum.now) d.number (device_of self.old) }
     {
         let ballot = self.ballot(d);
         match self.phase {
@@ -77,7 +75,7 @@ impl Device {
                 if any_above(&self.slots, ballot) {
                     return Outcome::Preempted;
                 }
-                if !quorum.is_quorum(Mark::Promised(ballot).set(&self.slots)) {
+                if !quorum.is_quorum(self.slots.map(|slot| slot.view.promised == ballot)) {
                     return Outcome::Waiting;
                 }
                 self.carry(self.choose());
@@ -93,9 +91,8 @@ impl Device {
     }
 
     // What it concludes, as device d, from all that it has read.
-    pub(crate) fn conclude<Q: Quorum>(&mut self, quorum: &Q, d: u8) -> Outcome
-        requires { d < 16 }
-        ensures { (result, device_of self.new) ≡ concluded (Q.Quorum.rule quorum.now) d (device_of self.old) }
+    pub(crate) fn conclude<Q: Quorum>(&mut self, quorum: &Q, d: DeviceNumber) -> Outcome
+        ensures { (result, device_of self.new) ≡ concluded (Q.Quorum.rule quorum.now) d.number (device_of self.old) }
     {
         match self.decision(quorum) {
             Some(value) => {

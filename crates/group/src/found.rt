@@ -2,7 +2,9 @@ ghost use Rattle.std.specs.Prelude.{◌≡◌, length, Ok, OnOk};
 ghost use Rattle.protocol.specs.Chain.{OneOrder};
 ghost use Rattle.group.specs.Founding.{all_empty, founding, new_state, new_model, Replayed};
 ghost use Rattle.group.specs.Models.{model_of, devices_of};
+ghost use Rattle.group.specs.declared.found.NotRun.TheVariants.{Refused, NoMemory};
 
+use crate::calls::Calls;
 use crate::group::Group;
 use crate::reading::log_length;
 use crate::table::DeviceTable;
@@ -11,7 +13,7 @@ use protocol::answer::Answer;
 use protocol::call::Call;
 use quorum::quorum::Quorum;
 use record::refusal::Refusal;
-use std::alloc::Global;
+use std::alloc::{AllocError, Global};
 
 // What became of a list of calls on a group that was founded for them: the answers, and the devices in the end.
 #[derive(Drop)]
@@ -24,7 +26,23 @@ pub struct Replay {
 #[derive(Clone, Copy, Debug, PartialEq, Eq)]
 pub enum NotRun {
     Refused(Refusal),
-    NoMemory,
+    NoMemory(AllocError),
+}
+
+impl From<Refusal> for NotRun {
+    ghost from_gives = { λ refusal e. e ≡ Refused refusal };
+
+    fn from(refusal: Refusal) -> NotRun {
+        NotRun::Refused(refusal)
+    }
+}
+
+impl From<AllocError> for NotRun {
+    ghost from_gives = { λ error e. e ≡ NoMemory error };
+
+    fn from(error: AllocError) -> NotRun {
+        NotRun::NoMemory(error)
+    }
 }
 
 fn all_empty<A: Accounts>(accounts: &A, count: usize) -> bool
@@ -91,15 +109,11 @@ pub fn found_and_run<A: Accounts + Drop, Q: Quorum + Drop>(
     ensures run { Replayed (Q.Quorum.rule quorum) (A.Accounts.books accounts) calls.now result }
     ensures order { OnOk result (OneOrder (Q.Quorum.rule quorum) (new_state (A.Accounts.books accounts)) calls.now) }
 {
-    if let Err(refusal) = check(&accounts, &quorum) {
-        return Err(NotRun::Refused(refusal));
-    }
+    check(&accounts, &quorum)?;
     let mut group = Group::new(accounts, quorum);
-    match group.run(heap, calls) {
-        Ok(answers) => Ok(Replay {
-            answers,
-            devices: group.devices(),
-        }),
-        Err(_) => Err(NotRun::NoMemory),
-    }
+    let answers = group.run(heap, calls)?;
+    Ok(Replay {
+        answers,
+        devices: group.devices(),
+    })
 }

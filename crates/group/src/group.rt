@@ -1,5 +1,7 @@
 use crate::table::DeviceTable;
 
+mod calls;
+
 // Accounts, the rule that counts them, and sixteen devices.
 #[derive(Drop)]
 pub struct Group<A, Q> {

@@ -1,15 +1,16 @@
 // The protocol as a program: devices, the group that they form over any accounts and any quorum rule, and whole runs.
 #![tactic(auto)]
 
+mod account_number;
 pub mod calls;
-pub mod changes;
-pub mod conclude;
+mod changes;
+mod conclude;
 pub mod device;
+mod device_number;
 pub mod found;
 pub mod group;
-pub mod mark;
-pub mod reading;
+mod numbers;
+mod reading;
 pub mod round;
-pub mod run;
 pub mod table;
-pub mod tally;
+mod tally;

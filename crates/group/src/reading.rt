@@ -1,9 +1,11 @@
-ghost use Rattle.std.specs.Prelude.{◌≡◌, ◌<◌, length};
+ghost use Rattle.std.specs.Prelude.{◌≡◌, length};
 ghost use Rattle.protocol.specs.Reading.{is_own, seen_with, noted, notes_before};
 ghost use Rattle.record.specs.Entry.{entry_of};
 ghost use Rattle.group.specs.Models.{device_of, log_of, notes_from};
 
+use crate::account_number::AccountNumber;
 use crate::device::Device;
+use crate::device_number::DeviceNumber;
 use account::accounts::Accounts;
 use journal::view::View;
 use protocol::notes::Notes;
@@ -15,30 +17,25 @@ use record::record::Record;
 pub(crate) fn log_length<A: Accounts>(accounts: &A, k: usize) -> usize
     ensures { result ≡ length (log_of (A.Accounts.books accounts.now) k) }
 {
-    match accounts.length(k) {
-        Ok(length) => length,
-        Err(_) => 0,
-    }
+    accounts.length(k).unwrap_or(0)
 }
 
 impl Device {
     // What it has noted about account k so far.
-    pub(crate) fn notes(&self, k: usize) -> Notes
-        requires { k < 7 }
-        ensures { result ≡ notes_before (device_of self.now) k }
+    pub(crate) fn notes(&self, k: AccountNumber) -> Notes
+        ensures { result ≡ notes_before (device_of self.now) k.number }
     {
-        let slots = self.slots;
+        let slot = &self.slots[k.number];
         Notes {
-            view: slots[k].view,
-            own: slots[k].own,
+            view: slot.view,
+            own: slot.own,
             seen: self.seen,
         }
     }
 
     // Whether a record is its own ACCEPT, as device d, and is accepted after what the view says.
-    fn confirms(&self, d: u8, view: View, r: &Record) -> bool
-        requires { d < 16 }
-        ensures { result ≡ is_own d (device_of self.now) view (entry_of r.now) }
+    fn confirms(&self, d: DeviceNumber, view: View, r: &Record) -> bool
+        ensures { result ≡ is_own d.number (device_of self.now) view (entry_of r.now) }
     {
         match (self.phase, r.kind) {
             (Phase::Accepting, Kind::Accept) => {
@@ -61,9 +58,8 @@ impl Device {
     }
 
     // Notes one record more, as device d.
-    pub(crate) fn note(&self, d: u8, notes: Notes, r: &Record) -> Notes
-        requires { d < 16 }
-        ensures { result ≡ noted d (device_of self.now) notes (entry_of r.now) }
+    pub(crate) fn note(&self, d: DeviceNumber, notes: Notes, r: &Record) -> Notes
+        ensures { result ≡ noted d.number (device_of self.now) notes (entry_of r.now) }
     {
         let own = notes.own || self.confirms(d, notes.view, r);
         let seen = self.highest_attempt(notes.seen, r);
@@ -73,16 +69,19 @@ impl Device {
     }
 
     // Notes all records of account k from its place to the end, as device d.
-    pub(crate) fn note_all<A: Accounts>(&self, d: u8, accounts: &A, k: usize, end: usize) -> Notes
-        requires device { d < 16 }
-        requires account { k < 7 }
-        requires length { end ≡ length (log_of (A.Accounts.books accounts.now) k) }
-        ensures { result ≡ notes_from d (device_of self.now) (A.Accounts.books accounts.now) k }
+    pub(crate) fn note_all<A: Accounts>(
+        &self,
+        d: DeviceNumber,
+        accounts: &A,
+        k: AccountNumber,
+        end: usize,
+    ) -> Notes
+        requires { end ≡ length (log_of (A.Accounts.books accounts.now) k.number) }
+        ensures { result ≡ notes_from d.number (device_of self.now) (A.Accounts.books accounts.now) k.number }
     {
         let mut notes = self.notes(k);
-        let slots = self.slots;
-        for i in slots[k].place..end {
-            if let Ok(r) = accounts.read(k, i) {
+        for i in self.slots[k.number].place..end {
+            if let Ok(r) = accounts.read(k.number, i) {
                 notes = self.note(d, notes, &r);
             }
         }

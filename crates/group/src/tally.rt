@@ -1,7 +1,6 @@
 ghost use Rattle.std.specs.Prelude.{◌≡◌};
 ghost use Rattle.protocol.specs.Deciding.{agreed_value, any_above, highest};
 
-use crate::mark::Mark;
 use journal::view::View;
 use protocol::slot::Slot;
 use quorum::quorum::Quorum;
@@ -11,10 +10,10 @@ use record::value::Value;
 pub(crate) fn accepted_by_quorum<Q: Quorum>(quorum: &Q, slots: &[Slot; 7]) -> Option<Value>
     ensures { result ≡ agreed_value (Q.Quorum.rule quorum.now) slots.now slots.now }
 {
-    for k in 0..7 {
-        let ballot = slots[k].view.accepted;
-        if ballot != 0 && quorum.is_quorum(Mark::Accepted(ballot).set(slots)) {
-            return Some(slots[k].view.value);
+    for slot in slots {
+        let ballot = slot.view.accepted;
+        if ballot != 0 && quorum.is_quorum(slots.map(|other| other.view.accepted == ballot)) {
+            return Some(slot.view.value);
         }
     }
     None
@@ -24,23 +23,18 @@ pub(crate) fn accepted_by_quorum<Q: Quorum>(quorum: &Q, slots: &[Slot; 7]) -> Op
 pub(crate) fn any_above(slots: &[Slot; 7], ballot: u32) -> bool
     ensures { result ≡ any_above ballot slots.now }
 {
-    for k in 0..7 {
-        if slots[k].view.promised > ballot {
-            return true;
-        }
-    }
-    false
+    slots.iter().any(|slot| slot.view.promised > ballot)
 }
 
 // The view with the highest accepted ballot, of the lowest account on a tie.
 pub(crate) fn highest_accepted(slots: &[Slot; 7]) -> View
     ensures { result ≡ highest slots.now }
 {
-    let mut best = View::new();
-    for k in 0..7 {
-        if slots[k].view.accepted > best.accepted {
-            best = slots[k].view;
+    slots.iter().fold(View::new(), |best, slot| {
+        if slot.view.accepted > best.accepted {
+            slot.view
+        } else {
+            best
         }
-    }
-    best
+    })
 }

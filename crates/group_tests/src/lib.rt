@@ -6,6 +6,7 @@ use account::accounts::Accounts;
 use account::end::End;
 use account::pair::Pair;
 use bench::runs::run_by_weight;
+use group::calls::Calls;
 use group::found::{NotRun, check as check_group};
 use group::group::Group;
 use protocol::answer::Answer;
@@ -157,7 +158,7 @@ fn weights_for_two_accounts(rt: HostRuntime) -> Result<(), Fail> {
             assert!(rt; false);
             Ok(())
         },
-        Err(NotRun::NoMemory) => {
+        Err(NotRun::NoMemory(_)) => {
             assert!(rt; false);
             Ok(())
         },

@@ -31,10 +31,8 @@ pub fn inspect(area: &[u8], version: u32) -> Result<View, Fault>
     }
     let mut view = View::new();
     for (place, bytes) in area.chunks(16).enumerate() {
-        match Record::from_bytes(bytes) {
-            Ok(r) => view.tell(version, &r),
-            Err(e) => return Err(Fault::Record(place, e)),
-        }
+        let r = Record::from_bytes(bytes).map_err(|refusal| Fault::Record(place, refusal))?;
+        view.tell(version, &r);
     }
     Ok(view)
 }

@@ -16,17 +16,20 @@ pub struct View {
 
 impl View {
     // Before any record was read.
+    pub const UNREAD: View = View {
+        promised: 0,
+        accepted: 0,
+        value: Value::NONE,
+    };
+
     pub fn new() -> View
         ensures { result ≡ unread }
     {
-        View {
-            promised: 0,
-            accepted: 0,
-            value: Value { root: 0, setup: 0 },
-        }
+        View::UNREAD
     }
 
     // Takes the log's next record, of whichever version.
+    #[tactic(auto, unfolding(crate::specs::Log::tell))]
     pub fn tell(&mut self, version: u32, r: &Record)
         ensures { self.new ≡ tell version self.old (entry_of r.now) }
     {
@@ -35,11 +38,7 @@ impl View {
         }
         let ballot = r.ballot();
         match r.kind {
-            Kind::Prepare => {
-                if ballot > self.promised {
-                    self.promised = ballot;
-                }
-            }
+            Kind::Prepare => self.promised = self.promised.max(ballot),
             Kind::Accept => {
                 if ballot >= self.promised && ballot >= self.accepted {
                     self.accepted = ballot;

@@ -1,4 +1,4 @@
-ghost use Rattle.std.specs.Prelude.{◌≡◌, IfOk, OnOk, IfErr};
+ghost use Rattle.std.specs.Prelude.{◌≡◌, IfOk, OnOk, IfErr, alloc_error};
 ghost use Rattle.protocol.specs.Chain.{OneOrder};
 ghost use Rattle.protocol.specs.Runs.{runs};
 ghost use Rattle.outsiders.specs.Chiefs.{chief};
@@ -18,7 +18,7 @@ use storage::byte_log::ByteLog;
 pub fn run(heap: Global, calls: &[Call]) -> Result<Vec<Answer>, NotRun>
     ensures answers { IfOk result (λ v. v.items ≡ (runs (chief 2) mixed_accounts calls.now).0) }
     ensures order { OnOk result (OneOrder (chief 2) mixed_accounts calls.now) }
-    ensures not_made { IfErr result (λ e. e ≡ NotRun.NoMemory) }
+    ensures not_made { IfErr result (λ e. e ≡ NotRun.NoMemory alloc_error) }
 {
     let mut area = [0u8; 64];
     let mut first = Shelf::new();

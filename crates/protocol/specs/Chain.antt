@@ -8,7 +8,7 @@ use Rattle.protocol.specs.State.{State, device_at, held}
 use Rattle.protocol.specs.Runs.{New, runs, call_at, after, said}
 use Rattle.protocol.specs.declared.answer.Answer.TheVariants.{Done, Attempt, Taken}
 use Rattle.protocol.specs.declared.call.Call.{Call}
-use Rattle.protocol.specs.declared.call.Call.TheVariants.{Join, SetLink, Propose, Send, Read, Again, Restart, Known}
+use Rattle.protocol.specs.declared.call.Call.TheVariants.{Propose, Read, Restart}
 use Rattle.protocol.specs.declared.outcome.Outcome.TheVariants.{Decided}
 use Rattle.protocol.specs.declared.version.Version.{Version}
 
@@ -40,13 +40,7 @@ chain ps = fold hand [] ps
 -- the proposal of a propose; other calls have none
 abbrev pub proposal_of : Call → Proposal
 proposal_of (Propose d base x) = record { base = base; value = x }
-proposal_of (Join d) = record { base = 0; value = no_value }
-proposal_of (SetLink d k l) = record { base = 0; value = no_value }
-proposal_of (Send d k) = record { base = 0; value = no_value }
-proposal_of (Read d k) = record { base = 0; value = no_value }
-proposal_of (Again d) = record { base = 0; value = no_value }
-proposal_of (Restart d) = record { base = 0; value = no_value }
-proposal_of (Known d) = record { base = 0; value = no_value }
+proposal_of _ = record { base = 0; value = no_value }
 
 -- A run: calls to a group that is in state s. A proposal goes by the place, counted from 0, of the call that opened it
 module _ (R : Rule) (s : State) (cs : List Call) where

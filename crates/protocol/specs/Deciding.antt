@@ -1,5 +1,6 @@
 -- What a device concludes from all that it has read.
-use Rattle.std.specs.Prelude.{ℕ, Bool, false, cond, not, ◌&&◌, ◌||◌, List, [], ◌∷◌, map, Some, None, fold, Option, ◌==◌, nat_eq, nat_lt}
+use Rattle.std.specs.Prelude.{ℕ, Bool, cond, not, ◌&&◌, List, [], ◌∷◌, map, Some, None, fold, Option, ◌==◌, nat_eq, nat_lt}
+use Rattle.std.specs.List.{list_any}
 use Rattle.record.specs.declared.value.Value.{Value}
 use Rattle.journal.specs.Log.{unread}
 use Rattle.journal.specs.declared.view.View.{View}
@@ -32,8 +33,7 @@ agreed_value R all (s ∷ ss) = cond (is_agreed R all s) (Some s.view.value) (ag
 
 -- some promised ballot is above b
 unfoldable pub any_above : ℕ → List Slot → Bool
-any_above b [] = false
-any_above b (s ∷ ss) = nat_lt b s.view.promised || any_above b ss
+any_above b ss = list_any (λ s. nat_lt b s.view.promised) ss
 
 -- the higher accepted ballot, the earlier of equals
 abbrev pub higher : View → Slot → View

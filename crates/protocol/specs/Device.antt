@@ -36,18 +36,15 @@ pub record Device : Type 0 where
 -- a proposal is open
 abbrev pub is_open : Phase → Bool
 is_open Idle = false
-is_open Preparing = true
-is_open Accepting = true
+is_open _ = true
 
 abbrev pub is_preparing : Phase → Bool
-is_preparing Idle = false
 is_preparing Preparing = true
-is_preparing Accepting = false
+is_preparing _ = false
 
 abbrev pub is_accepting : Phase → Bool
-is_accepting Idle = false
-is_accepting Preparing = false
 is_accepting Accepting = true
+is_accepting _ = false
 
 -- the version that it reads and writes about
 abbrev pub next_version : Device → ℕ
@@ -87,40 +84,16 @@ new_device joined =
     }
 
 abbrev pub with_link : Device → ℕ → Link → Device
-with_link v k l =
-    record {
-      joined = v.joined;
-      attempt = v.attempt;
-      known = v.known;
-      value = v.value;
-      phase = v.phase;
-      proposed = v.proposed;
-      carried = v.carried;
-      seen = v.seen;
-      links = slice_set v.links k l;
-      slots = v.slots;
-    }
+with_link v k l = record v { links = slice_set v.links k l }
 
 abbrev pub with_slot : Device → ℕ → Slot → ℕ → Device
-with_slot v k s seen =
-    record {
-      joined = v.joined;
-      attempt = v.attempt;
-      known = v.known;
-      value = v.value;
-      phase = v.phase;
-      proposed = v.proposed;
-      carried = v.carried;
-      seen = seen;
-      links = v.links;
-      slots = slice_set v.slots k s;
-    }
+with_slot v k s seen = record v { seen = seen; slots = slice_set v.slots k s }
 
 abbrev pub with_sent : Slot → Bool → Slot
-with_sent s sent = record { place = s.place; view = s.view; sent = sent; own = s.own }
+with_sent s sent = record s { sent = sent }
 
 abbrev pub unmarked : Slot → Slot
-unmarked s = record { place = s.place; view = s.view; sent = false; own = false }
+unmarked s = record s { sent = false; own = false }
 
 -- its request stands in account k
 abbrev pub sent_to : Device → ℕ → Device
@@ -128,51 +101,16 @@ sent_to v k = with_slot v k (with_sent (slot_at v k) true) v.seen
 
 -- it prepares the value x under a new attempt, and nothing is marked
 abbrev pub opened : Device → Value → Device
-opened v x =
-    record {
-      joined = v.joined;
-      attempt = next_attempt v;
-      known = v.known;
-      value = v.value;
-      phase = Preparing;
-      proposed = x;
-      carried = v.carried;
-      seen = v.seen;
-      links = v.links;
-      slots = map unmarked v.slots;
-    }
+opened v x = record v { attempt = next_attempt v; phase = Preparing; proposed = x; slots = map unmarked v.slots }
 
 -- it asks for the value x to be accepted, and has sent that nowhere
 abbrev pub carrying : Device → Value → Device
-carrying v x =
-    record {
-      joined = v.joined;
-      attempt = v.attempt;
-      known = v.known;
-      value = v.value;
-      phase = Accepting;
-      proposed = v.proposed;
-      carried = x;
-      seen = v.seen;
-      links = v.links;
-      slots = map (λ s. with_sent s false) v.slots;
-    }
+carrying v x = record v { phase = Accepting; carried = x; slots = map (λ s. with_sent s false) v.slots }
 
 -- it holds version n with the value x and begins anew, with its attempt and its links as they were
 abbrev pub holding : Device → ℕ → Value → Device
 holding v n x =
-    record {
-      joined = v.joined;
-      attempt = v.attempt;
-      known = n;
-      value = x;
-      phase = Idle;
-      proposed = no_value;
-      carried = no_value;
-      seen = 0;
-      links = v.links;
-      slots = replicate 7 fresh;
-    }
+    record v { known = n; value = x; phase = Idle; proposed = no_value; carried = no_value; seen = 0; slots = replicate 7 fresh }
 
 abbrev pub restarted : Device → Device
 restarted v = holding v v.known v.value

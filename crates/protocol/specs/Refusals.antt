@@ -6,17 +6,15 @@ use Rattle.quorum.specs.Rules.{Rule}
 use Rattle.protocol.specs.Device.{last_version, last_attempt, is_open, next_attempt, link_at, slot_at}
 use Rattle.protocol.specs.State.{State, device_at}
 use Rattle.protocol.specs.declared.link.Link.{Link}
-use Rattle.protocol.specs.declared.link.Link.TheVariants.{Up, Down, RepliesLost}
+use Rattle.protocol.specs.declared.link.Link.TheVariants.{Down, RepliesLost}
 
 abbrev pub is_down : Link → Bool
-is_down Up = false
 is_down Down = true
-is_down RepliesLost = false
+is_down _ = false
 
 abbrev pub loses_replies : Link → Bool
-loses_replies Up = false
-loses_replies Down = false
 loses_replies RepliesLost = true
+loses_replies _ = false
 
 abbrev pub join_checks : State → ℕ → List Check
 join_checks s d = when (nat_lt 15 d) why.NoSuchDevice ∷ when (device_at s d).joined why.AlreadyJoined ∷ []

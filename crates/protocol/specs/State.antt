@@ -26,7 +26,7 @@ abbrev pub held : State → ℕ → Version
 held s d = record { number = (device_at s d).known; value = (device_at s d).value }
 
 abbrev pub put_device : State → ℕ → Device → State
-put_device s d v = record { books = s.books; devices = slice_set s.devices d v }
+put_device s d v = record s { devices = slice_set s.devices d v }
 
 abbrev pub put_books : State → List Book → State
-put_books s bs = record { books = bs; devices = s.devices }
+put_books s bs = record s { books = bs }

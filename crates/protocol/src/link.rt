@@ -11,11 +11,12 @@ pub enum Link {
     RepliesLost,
 }
 
-impl Link {
-    // The link that a number stands for.
-    pub fn from_number(number: u32) -> Result<Link, Refusal>
-        ensures { result ≡ link_from number }
-    {
+impl TryFrom<u32> for Link {
+    type Error = Refusal;
+
+    ghost try_from_gives = { λ number r. r ≡ link_from number };
+
+    fn try_from(number: u32) -> Result<Link, Refusal> {
         match number {
             0 => Ok(Link::Up),
             1 => Ok(Link::Down),

@@ -10,10 +10,10 @@ pub enum Outcome {
     Preempted = 3,
 }
 
-impl Outcome {
-    pub fn number(self) -> u8
-        ensures { result ≡ outcome_number self }
-    {
-        self as u8
+impl From<Outcome> for u8 {
+    ghost from_gives = { λ outcome n. n ≡ outcome_number outcome };
+
+    fn from(outcome: Outcome) -> u8 {
+        outcome as u8
     }
 }

@@ -9,3 +9,13 @@ pub struct Slot {
     pub sent: bool,
     pub own: bool,
 }
+
+impl Slot {
+    // Nothing was read, sent or seen accepted.
+    pub const FRESH: Slot = Slot {
+        place: 0,
+        view: View::UNREAD,
+        sent: false,
+        own: false,
+    };
+}

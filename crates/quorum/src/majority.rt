@@ -34,12 +34,7 @@ impl Quorum for Majority {
     }
 
     fn is_quorum(&self, set: [bool; 7]) -> bool {
-        let mut members = 0;
-        for i in 0..self.n {
-            if set[i] {
-                members += 1;
-            }
-        }
+        let members = set[..self.n].iter().filter(|marked| **marked).count();
         2 * members > self.n
     }
 }

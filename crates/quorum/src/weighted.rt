@@ -27,15 +27,15 @@ impl Weighted {
         if n < 1 || n > 7 {
             return Err(Refusal::BadAccountCount);
         }
-        let mut held = [0u8; 7];
         let mut total = 0u32;
-        for i in 0..n {
-            held[i] = weights[i];
-            total += weights[i] as u32;
+        for weight in weights {
+            total += *weight as u32;
         }
         if total == 0 {
             return Err(Refusal::NoWeight);
         }
+        let mut held = [0u8; 7];
+        held[..n].copy_from_slice(weights);
         Ok(Weighted {
             n,
             weights: held,
@@ -55,9 +55,9 @@ impl Quorum for Weighted {
 
     fn is_quorum(&self, set: [bool; 7]) -> bool {
         let mut weight = 0u32;
-        for i in 0..self.n {
-            if set[i] {
-                weight += self.weights[i] as u32;
+        for (marked, of_it) in set.iter().zip(&self.weights[..self.n]) {
+            if *marked {
+                weight += *of_it as u32;
             }
         }
         2 * weight > self.total

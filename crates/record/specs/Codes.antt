@@ -1,5 +1,5 @@
--- The number of each kind of record, and of each refusal.
-use Rattle.std.specs.Prelude.{ℕ}
+-- The number of each kind of record and its name, and the number of each refusal.
+use Rattle.std.specs.Prelude.{ℕ, List, codes}
 use Rattle.record.specs.declared.kind.Kind.{Kind}
 use Rattle.record.specs.declared.kind.Kind.TheVariants.{Prepare, Accept}
 use Rattle.record.specs.declared.refusal.Refusal.{Refusal}
@@ -13,6 +13,10 @@ use Rattle.record.specs.declared.refusal.Refusal.TheVariants.{UnknownCommand, Wr
 abbrev pub kind_number : Kind → ℕ
 kind_number Prepare = 1
 kind_number Accept = 2
+
+abbrev pub kind_name : Kind → List ℕ
+kind_name Prepare = codes "PREPARE"
+kind_name Accept = codes "ACCEPT"
 
 abbrev pub code : Refusal → ℕ
 code NotWhole = 1

@@ -3,23 +3,13 @@ ghost use Rattle.record.specs.Checks.{unless};
 ghost use Rattle.record.specs.Codes.{kind_number};
 ghost use Rattle.record.specs.Entry.{entry_of, entry_in, ballot};
 ghost use Rattle.record.specs.Halves.{value_in, head_of};
-ghost use Rattle.record.specs.Layout.{kind_from, too_wide, meaningless, entry_from, from_numbers, decoded, encoded};
+ghost use Rattle.record.specs.Layout.{too_wide, meaningless, entry_from, from_numbers, decoded, encoded};
 
 use super::kind::Kind;
 use super::numbers::Numbers;
 use super::record::Record;
 use super::refusal::Refusal;
 use super::value::Value;
-
-fn kind_from(number: u64) -> Result<Kind, Refusal>
-    ensures { result ≡ kind_from number }
-{
-    match number {
-        1 => Ok(Kind::Prepare),
-        2 => Ok(Kind::Accept),
-        _ => Err(Refusal::UnknownKind),
-    }
-}
 
 // The record of numbers that fit their widths, under the kind that they name.
 fn meaningful(kind: Kind, n: Numbers) -> Result<Record, Refusal>
@@ -83,14 +73,14 @@ impl Record {
             root: value.root as u128,
             setup: value.setup as u64,
         };
-        meaningful(kind_from(n.kind)?, n)
+        meaningful(Kind::try_from(n.kind)?, n)
     }
 
     // The record of these numbers, or why there is none.
     pub fn from_numbers(n: Numbers) -> Result<Record, Refusal>
         ensures { entry_in result ≡ from_numbers n }
     {
-        let kind = kind_from(n.kind)?;
+        let kind = Kind::try_from(n.kind)?;
         if n.attempt > 0xffff
             || n.device > 0xf
             || n.version > 0x3ff
@@ -106,7 +96,7 @@ impl Record {
     fn head(&self) -> u32
         ensures { result ≡ head_of (entry_of self.now) }
     {
-        let kind = self.kind.number();
+        let kind = u8::from(self.kind);
         ((kind as u32) << 30)
             | ((self.attempt as u32) << 14)
             | ((self.device as u32) << 10)

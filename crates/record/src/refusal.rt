@@ -42,10 +42,10 @@ pub enum Refusal {
     InputTooLong = 63,
 }
 
-impl Refusal {
-    pub fn number(self) -> u8
-        ensures { result ≡ code self }
-    {
-        self as u8
+impl From<Refusal> for u8 {
+    ghost from_gives = { λ refusal n. n ≡ code refusal };
+
+    fn from(refusal: Refusal) -> u8 {
+        refusal as u8
     }
 }

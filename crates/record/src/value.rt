@@ -4,3 +4,7 @@ pub struct Value {
     pub root: u64,
     pub setup: u32,
 }
+
+impl Value {
+    pub const NONE: Value = Value { root: 0, setup: 0 };
+}

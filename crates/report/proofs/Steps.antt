@@ -1,10 +1,12 @@
 -- A loop over records, by what is still to come. Assumes nothing.
-use Rattle.std.proofs.Common.{◌≡◌, ℕ, suc, ◌+◌, ◌-◌, ◌<◌, ◌≤◌, Bool, true, false, cond, ◌||◌, eqb, List, [], ◌∷◌, ◌++◌, map, length, get_or, drop, is_some, IfOk, Some, None, Option, Result, sym, refl, ap, ◌∙◌, append-nil, add-zero, add-one, arith, drop-cons}
+use Rattle.std.proofs.Common.{not, ◌==◌, ◌≡◌, ℕ, suc, ◌+◌, ◌-◌, ◌<◌, ◌≤◌, Bool, true, false, cond, ◌||◌, List, [], ◌∷◌, ◌++◌, map, length, get_or, drop, is_some, IfOk, Some, None, Option, Result, sym, refl, ap, ◌∙◌, append-nil, add-zero, add-one, arith, drop-cons}
 use lib.ListN.{length-map}
 use Rattle.std.proofs.lemmas.List.{drop_all}
 use Rattle.journal.specs.Log.{is_accept, says}
 use Rattle.journal.specs.declared.view.View.{View}
 use Rattle.record.specs.Entry.{Entry, entry_of}
+use Rattle.std.specs.List.{list_any}
+use Rattle.std.proofs.lemmas.List.Sums.{count_by-le-length}
 use Rattle.std.proofs.lemmas.Result.{IfOk-weaker}
 use Rattle.record.specs.declared.record.Record.{Record}
 use Rattle.record.specs.declared.refusal.Refusal.{Refusal}
@@ -29,30 +31,6 @@ line-more place e es a b p = ap (λ n. b ++ record_lines n es) (add-one place) �
 pub line-end : (place : ℕ) (a : List ℕ) → a ++ record_lines place [] ≡ a
 unfolding record_lines
 line-end place a = append-nil a
-
--- a version occurs from here on if it occurs here or later
-pub occurs-more : (w : ℕ) (e : Entry) (es : List Entry) (was is : Bool) → is ≡ cond (eqb e.version w) true was
-    → (is || occurs w es) ≡ (was || occurs w (e ∷ es))
-unfolding occurs
-occurs-more w e es was is p = ap (λ b. b || occurs w es) p ∙ at (eqb e.version w) was (occurs w es)
-  where
-    at : (here before later : Bool) → (cond here true before || later) ≡ (before || (here || later))
-    at true true later = refl
-    at true false later = refl
-    at false before later = refl
-
-pub occurs-end : (w : ℕ) (b : Bool) → (b || occurs w []) ≡ b
-unfolding occurs
-occurs-end w true = refl
-occurs-end w false = refl
-
-pub prepares-more : (e : Entry) (es : List Entry) (was is : ℕ) → is ≡ was + cond (is_accept e.kind) 0 1 → is + prepares es ≡ was + prepares (e ∷ es)
-unfolding prepares
-prepares-more e es was is p = omega arith
-
-pub prepares-end : (n : ℕ) → n + prepares [] ≡ n
-unfolding prepares
-prepares-end n = add-zero n
 
 -- n versions are still to come
 pub versions-more : (n w : ℕ) (es : List Entry) (a b : List ℕ) → b ≡ a ++ version_line w (surveyed w es)
@@ -83,21 +61,12 @@ pub counted-end : (w : ℕ) (es : List Entry) (n : ℕ) → n + version_count 0 
 unfolding version_count
 counted-end w es n = add-zero n
 
-pub occurrence-small : (w : ℕ) (es : List Entry) → occurrence w es ≤ 1
-occurrence-small w es = at (occurs w es)
-  where
-    at : (b : Bool) → cond b 1 0 ≤ 1
-    at true = omega arith
-    at false = omega arith
+pub one_at_most : {X : Type 0} (o : Option X) → cond (is_some o) 1 0 ≤ 1
+one_at_most None = omega arith
+one_at_most (Some x) = omega arith
 
 pub prepares-few : (es : List Entry) → prepares es ≤ length es
-unfolding prepares
-prepares-few [] = omega arith
-prepares-few (e ∷ es) = at (is_accept e.kind) (prepares-few es)
-  where
-    at : (b : Bool) → prepares es ≤ length es → cond b 0 1 + prepares es ≤ suc (length es)
-    at true h = omega arith
-    at false h = omega arith
+prepares-few es = count_by-le-length (λ e. not (is_accept e.kind)) es
 
 -- the parts of a report, one after another
 pub front-is : {T E : Type 0} (r : Result T E) (rs : List Record) (o : Option Refusal) (a b c d x : List ℕ) (p n : ℕ)
@@ -110,3 +79,8 @@ front-is r rs o a b c d x p n e f g h k m =
     let m' = IfOk-weaker r _ (λ _. x ≡ d ++ closing_line (prepares es) (length es - prepares es) (version_count 1023 1 es)) (λ _ q. q ∙ (λ i. d ++ closing_line (k i) (l i - k i) (h i))) m in
     let f' = f ∙ ap (λ z. b ++ refusal_lines z o) l in
     wrote_then r a b x _ _ e (wrote_then r b c x _ _ f' (wrote_then r c d x _ _ g m'))
+
+-- a test of what records say is the test of the records
+pub occurs_is : (w : ℕ) (rs : List Record) → list_any (λ r. r.version == w) rs ≡ occurs w (map entry_of rs)
+occurs_is w [] = refl
+occurs_is w (r ∷ rs) = ap (λ b. r.version == w || b) (occurs_is w rs)

@@ -1,10 +1,9 @@
 -- The lines of a report, as bytes.
-use Rattle.std.specs.Prelude.{ℕ, cond, List, [], ◌∷◌, ◌++◌, codes, decimal, ◌==◌}
-use Rattle.record.specs.Codes.{code}
+use Rattle.std.specs.Prelude.{ℕ, List, [], ◌∷◌, ◌++◌, codes, decimal}
+use Rattle.record.specs.Codes.{code, kind_name}
 use Rattle.record.specs.Entry.{Entry, ballot}
-use Rattle.record.specs.declared.kind.Kind.{Kind}
-use Rattle.record.specs.declared.kind.Kind.TheVariants.{Prepare, Accept}
 use Rattle.record.specs.declared.refusal.Refusal.{Refusal}
+use Rattle.record.specs.declared.refusal.Refusal.TheVariants.{NotWhole, UnknownKind, NoAttempt, NoVersion, PrepareWithValue}
 use Rattle.record.specs.declared.value.Value.{Value}
 use Rattle.journal.specs.declared.view.View.{View}
 
@@ -19,10 +18,6 @@ text (a ∷ bs) = text_after a bs
 
 abbrev pub newline : List ℕ
 newline = 10 ∷ []
-
-abbrev pub kind_name : Kind → List ℕ
-kind_name Prepare = codes "PREPARE"
-kind_name Accept = codes "ACCEPT"
 
 abbrev pub request_text : ℕ → Entry → List ℕ
 request_text place e =
@@ -47,17 +42,17 @@ value_text x = text (codes " root " ∷ decimal x.root ∷ codes " setup " ∷ d
 abbrev pub record_line : ℕ → Entry → List ℕ
 record_line place e = request_text place e ++ value_text e.value
 
--- what a refusal's number means of a record
-abbrev pub meaning_text : ℕ → List ℕ
-meaning_text n =
-    cond (n == 1) (codes "not sixteen bytes, or beyond the 4096 records of an area")
-    (cond (n == 2) (codes "the kind is neither PREPARE nor ACCEPT")
-    (cond (n == 3) (codes "the attempt is 0")
-    (cond (n == 4) (codes "the version is 0")
-    (cond (n == 5) (codes "a PREPARE carries a value") (codes "no record")))))
+-- what a refusal says of a record
+abbrev pub meaning_text : Refusal → List ℕ
+meaning_text NotWhole = codes "not sixteen bytes, or beyond the 4096 records of an area"
+meaning_text UnknownKind = codes "the kind is neither PREPARE nor ACCEPT"
+meaning_text NoAttempt = codes "the attempt is 0"
+meaning_text NoVersion = codes "the version is 0"
+meaning_text PrepareWithValue = codes "a PREPARE carries a value"
+meaning_text _ = codes "no record"
 
 abbrev pub refusal_line : ℕ → Refusal → List ℕ
-refusal_line place d = text (decimal place ∷ codes " refused " ∷ decimal (code d) ∷ codes ": " ∷ meaning_text (code d) ∷ newline ∷ [])
+refusal_line place d = text (decimal place ∷ codes " refused " ∷ decimal (code d) ∷ codes ": " ∷ meaning_text d ∷ newline ∷ [])
 
 -- what a log says about version w; accepted 0 means that nothing is
 abbrev pub view_line : ℕ → View → List ℕ

@@ -1,5 +1,6 @@
 -- A whole report: a line for each record, for what is no record, and for each version, and a closing line.
-use Rattle.std.specs.Prelude.{ℕ, zero, suc, ◌+◌, ◌-◌, Bool, false, cond, ◌||◌, List, [], ◌∷◌, ◌++◌, length, Some, None, Option, ◌==◌}
+use Rattle.std.specs.Prelude.{ℕ, zero, suc, ◌+◌, ◌-◌, Bool, cond, not, count_by, List, [], ◌∷◌, ◌++◌, length, Some, None, Option, ◌==◌}
+use Rattle.std.specs.List.{list_any}
 use Rattle.record.specs.Entry.{Entry}
 use Rattle.record.specs.declared.refusal.Refusal.{Refusal}
 use Rattle.journal.specs.Area.{read_area, limit}
@@ -12,9 +13,8 @@ unfoldable pub record_lines : ℕ → List Entry → List ℕ
 record_lines place [] = []
 record_lines place (e ∷ es) = record_line place e ++ record_lines (suc place) es
 
-unfoldable pub occurs : ℕ → List Entry → Bool
-occurs w [] = false
-occurs w (e ∷ es) = e.version == w || occurs w es
+abbrev pub occurs : ℕ → List Entry → Bool
+occurs w es = list_any (λ e. e.version == w) es
 
 -- what the records say about version w, if it occurs
 abbrev pub surveyed : ℕ → List Entry → Option View
@@ -37,9 +37,8 @@ unfoldable pub version_count : ℕ → ℕ → List Entry → ℕ
 version_count zero w es = 0
 version_count (suc n) w es = occurrence w es + version_count n (suc w) es
 
-unfoldable pub prepares : List Entry → ℕ
-prepares [] = 0
-prepares (e ∷ es) = cond (is_accept e.kind) 0 1 + prepares es
+abbrev pub prepares : List Entry → ℕ
+prepares es = count_by (λ e. not (is_accept e.kind)) es
 
 abbrev pub refusal_lines : ℕ → Option Refusal → List ℕ
 refusal_lines place None = []

@@ -1,43 +1,31 @@
 ghost use Rattle.std.specs.Prelude.{◌≡◌, ◌++◌, string_bytes, OnOk};
 ghost use Rattle.record.specs.Entry.{entry_of};
-ghost use Rattle.report.specs.Lines.{kind_name, request_text, value_text, record_line, meaning_text, refusal_line, view_line, closing_line};
+ghost use Rattle.report.specs.Lines.{request_text, value_text, record_line, meaning_text, refusal_line, view_line, closing_line};
 
 use journal::view::View;
-use record::kind::Kind;
 use record::record::Record;
 use record::refusal::Refusal;
 use record::value::Value;
 use std::alloc::AllocError;
 
-fn kind_name(kind: Kind) -> &'static str
-    ensures { result.now ≡ kind_name kind }
-{
-    match kind {
-        Kind::Prepare => "PREPARE",
-        Kind::Accept => "ACCEPT",
-    }
-}
-
 fn write_request(out: &mut String, place: usize, r: &Record) -> Result<(), AllocError>
     ensures { OnOk result (string_bytes out.new ≡ string_bytes out.old ++ request_text place (entry_of r.now)) }
 {
-    let kind = kind_name(r.kind);
-    let attempt = r.attempt;
-    let device = r.device;
-    let version = r.version;
-    let ballot = r.ballot();
     write!(
         out,
-        "{place} {kind} attempt {attempt} device {device} version {version} ballot {ballot}"
+        "{place} {} attempt {} device {} version {} ballot {}",
+        r.kind,
+        r.attempt,
+        r.device,
+        r.version,
+        r.ballot()
     )
 }
 
 fn write_value(out: &mut String, value: Value) -> Result<(), AllocError>
     ensures { OnOk result (string_bytes out.new ≡ string_bytes out.old ++ value_text value) }
 {
-    let root = value.root;
-    let setup = value.setup;
-    writeln!(out, " root {root} setup {setup}")
+    writeln!(out, " root {} setup {}", value.root, value.setup)
 }
 
 // One record of a log, under its place.
@@ -48,16 +36,16 @@ pub(crate) fn record_line(out: &mut String, place: usize, r: &Record) -> Result<
     write_value(out, r.value)
 }
 
-// What a refusal's number means of a record.
-fn meaning(number: u8) -> &'static str
-    ensures { result.now ≡ meaning_text number }
+// What a refusal says of a record.
+fn meaning(refusal: Refusal) -> &'static str
+    ensures { result.now ≡ meaning_text refusal }
 {
-    match number {
-        1 => "not sixteen bytes, or beyond the 4096 records of an area",
-        2 => "the kind is neither PREPARE nor ACCEPT",
-        3 => "the attempt is 0",
-        4 => "the version is 0",
-        5 => "a PREPARE carries a value",
+    match refusal {
+        Refusal::NotWhole => "not sixteen bytes, or beyond the 4096 records of an area",
+        Refusal::UnknownKind => "the kind is neither PREPARE nor ACCEPT",
+        Refusal::NoAttempt => "the attempt is 0",
+        Refusal::NoVersion => "the version is 0",
+        Refusal::PrepareWithValue => "a PREPARE carries a value",
         _ => "no record",
     }
 }
@@ -70,23 +58,24 @@ pub(crate) fn refusal_line(
 ) -> Result<(), AllocError>
     ensures { OnOk result (string_bytes out.new ≡ string_bytes out.old ++ refusal_line place refusal) }
 {
-    let number = refusal.number();
-    let why = meaning(number);
-    writeln!(out, "{place} refused {number}: {why}")
+    writeln!(
+        out,
+        "{place} refused {}: {}",
+        u8::from(refusal),
+        meaning(refusal)
+    )
 }
 
 // What the log says about one version.
 pub(crate) fn view_line(out: &mut String, version: u32, view: View) -> Result<(), AllocError>
     ensures { OnOk result (string_bytes out.new ≡ string_bytes out.old ++ view_line version view) }
 {
-    let promised = view.promised;
-    let accepted = view.accepted;
-    let root = view.value.root;
-    let setup = view.value.setup;
-    writeln!(
+    write!(
         out,
-        "version {version} promised {promised} accepted {accepted} root {root} setup {setup}"
-    )
+        "version {version} promised {} accepted {}",
+        view.promised, view.accepted
+    )?;
+    write_value(out, view.value)
 }
 
 // How many records there were, and of how many versions.

@@ -1,6 +1,6 @@
 ghost use Rattle.std.specs.Prelude.{◌≡◌, ◌++◌, map, IfOk, string_bytes, OnOk};
 ghost use Rattle.record.specs.Entry.{entry_of};
-ghost use Rattle.report.specs.Report.{record_lines, surveyed, version_line, occurrence, version_lines, version_count, prepares, refusal_lines, front_text, reported};
+ghost use Rattle.report.specs.Report.{record_lines, surveyed, occurs, version_lines, version_count, prepares, refusal_lines, front_text, reported};
 
 use crate::lines::{closing_line, record_line, refusal_line, view_line};
 use journal::area::read_area;
@@ -19,32 +19,24 @@ fn record_lines(out: &mut String, records: &[Record]) -> Result<(), AllocError>
     Ok(())
 }
 
+fn occurs(records: &[Record], version: u32) -> bool
+    ensures { result ≡ occurs version (map entry_of records.now) }
+{
+    records.iter().any(|r| r.version as u32 == version)
+}
+
 // What the records say about a version, if one of them is of that version.
 fn survey(records: &[Record], version: u32) -> Option<View>
     ensures { result ≡ surveyed version (map entry_of records.now) }
 {
+    if !occurs(records, version) {
+        return None;
+    }
     let mut view = View::new();
-    let mut occurs = false;
     for r in records {
-        if r.version as u32 == version {
-            occurs = true;
-        }
         view.tell(version, r);
     }
-    if occurs { Some(view) } else { None }
-}
-
-// A line for a version if it occurs, and whether it does, as 1 or 0.
-fn version_line(out: &mut String, version: u32, records: &[Record]) -> Result<u32, AllocError>
-    ensures { IfOk result (λ n. (string_bytes out.new ≡ string_bytes out.old ++ version_line version (surveyed version (map entry_of records.now))) × (n ≡ occurrence version (map entry_of records.now))) }
-{
-    match survey(records, version) {
-        Some(view) => {
-            view_line(out, version, view)?;
-            Ok(1)
-        }
-        None => Ok(0),
-    }
+    Some(view)
 }
 
 // A line for each version that occurs, and how many there are.
@@ -53,7 +45,10 @@ fn version_lines(out: &mut String, records: &[Record]) -> Result<u32, AllocError
 {
     let mut versions = 0;
     for version in 1..1024 {
-        versions += version_line(out, version, records)?;
+        if let Some(view) = survey(records, version) {
+            view_line(out, version, view)?;
+            versions += 1;
+        }
     }
     Ok(versions)
 }
@@ -61,14 +56,7 @@ fn version_lines(out: &mut String, records: &[Record]) -> Result<u32, AllocError
 fn count_prepares(records: &[Record]) -> usize
     ensures { result ≡ prepares (map entry_of records.now) }
 {
-    let mut count = 0;
-    for r in records {
-        match r.kind {
-            Kind::Prepare => count += 1,
-            Kind::Accept => {}
-        }
-    }
-    count
+    records.iter().filter(|r| r.kind == Kind::Prepare).count()
 }
 
 fn refusal_lines(out: &mut String, place: usize, refusal: Option<Refusal>) -> Result<(), AllocError>

@@ -23,14 +23,14 @@ fn write_answer(out: &mut String, answer: Answer) -> Result<(), AllocError>
 {
     match answer {
         Answer::Refused(refusal) => {
-            let number = refusal.number();
+            let number = u8::from(refusal);
             writeln!(out, "{number}")
         }
         Answer::Done => writeln!(out, "0"),
         Answer::Attempt(attempt) => writeln!(out, "0 {attempt}"),
         Answer::Length(length) => writeln!(out, "0 {length}"),
         Answer::Taken(count, outcome) => {
-            let number = outcome.number();
+            let number = u8::from(outcome);
             writeln!(out, "0 {count} {number}")
         }
         Answer::Holds(version) => write_version(out, version),

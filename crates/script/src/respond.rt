@@ -7,6 +7,7 @@ ghost use Rattle.script.specs.Script.{parsed, calls_of, printed};
 use crate::answers::show;
 use crate::lines::{calls, parse};
 use bench::runs::run;
+use group::found::NotRun;
 use std::alloc::{AllocError, Global};
 
 // What a script prints, played on three new accounts counted by majority. The proposals of its calls have one order.
@@ -18,6 +19,8 @@ pub fn respond(heap: Global, input: &[u8]) -> Result<String, AllocError>
     let calls = calls(heap, lines.as_slice())?;
     match run(heap, calls.as_slice()) {
         Ok(answers) => show(heap, lines.as_slice(), answers.as_slice()),
-        Err(_) => Err(AllocError),
+        Err(NotRun::NoMemory(error)) => Err(error),
+        // a majority of three can always be founded on three new accounts
+        Err(NotRun::Refused(_)) => unreachable!(),
     }
 }

@@ -1,7 +1,7 @@
 -- The sixteen bytes at a place, where another part of the area is written. Assumes nothing.
-use Rattle.std.proofs.Common.{◌≡◌, ℕ, ◌+◌, ◌-◌, ◌*◌, ◌<◌, ◌≤◌, List, ◌++◌, length, take, drop, set, sym, ap, ◌∙◌, append_assoc, arith}
+use Rattle.std.proofs.Common.{◌≡◌, ℕ, ◌+◌, ◌-◌, ◌*◌, ◌<◌, ◌≤◌, List, ◌++◌, length, take, drop, sym, ap, ◌∙◌, append_assoc, arith}
 use lib.Seq.{paste}
-use Rattle.std.proofs.lemmas.List.{drop-take, take-take, take-set-le, drop_at, take_at, take_all, length-take-le}
+use Rattle.std.proofs.lemmas.List.{drop-take, take-take, drop_at, take_at, take_all, length-take-le}
 use Rattle.storage.specs.Areas.{slot}
 
 -- a slot lies in any front that reaches past it
@@ -13,9 +13,6 @@ slot-front bs k n h =
 
 slot_same : (cs bs : List ℕ) (k n : ℕ) → k * 16 + 16 ≤ n → take n cs ≡ take n bs → slot cs k ≡ slot bs k
 slot_same cs bs k n h e = sym (slot-front cs k n h) ∙ ap (λ x. slot x k) e ∙ slot-front bs k n h
-
-pub slot-set : (bs : List ℕ) (k j b : ℕ) → k * 16 + 16 ≤ j → slot (set bs j b) k ≡ slot bs k
-slot-set bs k j b h = slot_same (set bs j b) bs k j h (take-set-le j bs j b (omega arith))
 
 -- sixteen bytes written at place k
 module _ (bs new : List ℕ) (k : ℕ) (inside : k * 16 + 16 ≤ length bs) (long : length new ≡ 16) where

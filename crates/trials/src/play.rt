@@ -2,6 +2,7 @@ use crate::compare::{Difference, compare};
 use crate::totals::bump;
 use crate::trial::{Story, Trial};
 use account::accounts::Accounts;
+use group::calls::Calls;
 use group::group::Group;
 use group::round::Orders;
 use group::table::DeviceTable;

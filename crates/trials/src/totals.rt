@@ -47,7 +47,7 @@ impl Totals {
     }
 
     pub fn count_refusal(&mut self, refusal: Refusal) {
-        if let Some(count) = self.refusals.get_mut(refusal.number() as usize) {
+        if let Some(count) = self.refusals.get_mut(u8::from(refusal) as usize) {
             bump(count);
         }
     }

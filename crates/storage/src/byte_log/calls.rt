@@ -51,10 +51,7 @@ impl Account for ByteLog<'_> {
         if at >= self.area.len() {
             return Err(Refusal::Full);
         }
-        let bytes = r.to_bytes();
-        for i in 0..16 {
-            self.area[at + i] = bytes[i];
-        }
+        self.area[at..at + 16].copy_from_slice(&r.to_bytes());
         self.used = used + 1;
         Ok(used + 1)
     }

@@ -2,47 +2,14 @@ ghost use Rattle.std.specs.Prelude.{◌≡◌, ◌<◌, true, [], ◌∷◌, len
 ghost use Rattle.record.specs.Entry.{entry_of};
 ghost use Rattle.account.specs.Books.{appended, empty};
 ghost use Rattle.storage.specs.Sizes.{row_room};
-ghost use Rattle.storage.specs.Rows.{row_of, numbers_of};
 ghost use Rattle.storage.specs.VersionedFiles.{rows_of, file_book, filled};
 ghost use Rattle.storage.specs.Kept.{file-keeps};
 
 use super::VersionedFile;
 use crate::row::Row;
 use account::account::Account;
-use record::numbers::Numbers;
 use record::record::Record;
 use record::refusal::Refusal;
-
-// The row of a record at a place.
-fn row_of(r: &Record, place: usize) -> Row
-    requires { place < 4096 }
-    ensures { result ≡ row_of (entry_of r.now) place }
-{
-    let before = place.saturating_sub(1) as u16;
-    Row {
-        kind: r.kind.number(),
-        attempt: r.attempt,
-        device: r.device,
-        version: r.version,
-        root: r.value.root,
-        setup: r.value.setup,
-        before,
-    }
-}
-
-// The numbers of the record in a row.
-fn numbers_of(row: Row) -> Numbers
-    ensures { result ≡ numbers_of row }
-{
-    Numbers {
-        kind: row.kind as u64,
-        attempt: row.attempt as u64,
-        device: row.device as u64,
-        version: row.version as u64,
-        root: row.root as u128,
-        setup: row.setup as u64,
-    }
-}
 
 impl<'a> VersionedFile<'a> {
     // How many records a slice has room for, or that no file can be founded on it.
@@ -84,7 +51,7 @@ impl Account for VersionedFile<'_> {
         if used >= self.rows.len() {
             return Err(Refusal::Full);
         }
-        self.rows[used] = row_of(r, used);
+        self.rows[used] = Row::new(r, used);
         self.used = used + 1;
         Ok(used + 1)
     }
@@ -97,7 +64,7 @@ impl Account for VersionedFile<'_> {
         while at > place {
             at = self.rows[at].before as usize;
         }
-        Record::from_numbers(numbers_of(self.rows[at]))
+        Record::from_numbers(self.rows[at].into())
     }
 
     fn length(&self) -> usize {

@@ -1,24 +1,27 @@
-use Rattle.std.proofs.Common.{[], ◌∷◌, ◌++◌, map, take, vec_items, sym, ap, ◌∙◌, append_assoc, append-nil}
-use Rattle.std.proofs.lemmas.List.{map_more, take_all}
-use Rattle.group.specs.Rounds.{pass_call}
+use Rattle.std.proofs.Common.{ℕ, [], ◌∷◌, ◌++◌, take, subst, sym, ap, ◌∙◌, append_assoc, append-nil}
+use Rattle.std.proofs.lemmas.List.{take_more, take_all}
+use Rattle.std.proofs.lemmas.Slice.Zip.{all_zipped_more}
+use Rattle.std.specs.List.{AllZip}
+use Rattle.protocol.specs.declared.call.Call.{Call}
 use Rattle.group.proofs.round.push_each.Goals as goal
 
 pub loop-account-init : goal.loop-account-init
-loop-account-init c = sym (append-nil _)
+loop-account-init g c = ([], sym (append-nil _), tt)
 
 pub loop-account-preserved : goal.loop-account-preserved
-loop-account-preserved c =
-    let f = pass_call c.args.pass c.args.device in
+loop-account-preserved g c =
+    let inv = c.loop-account.invariant in
     let i = c.loop-account.account-index in
     let ks = c.args.accounts.now in
-    let before = vec_items c.args.calls.now in
-    c.in_ok-push.ensures.items
-    ∙ ap (λ l. l ++ c.call.result ∷ []) c.loop-account.invariant
-    ∙ append_assoc before (map f (take i ks)) (c.call.result ∷ [])
-    ∙ ap (λ x. before ++ (map f (take i ks) ++ x ∷ [])) c.call.ensures
-    ∙ ap (λ l. before ++ l) (sym (map_more f ks i 0 c.loop-account-test.true))
+    let called : ℕ → Call → Type 0 = λ k x. g.F.Fn.post c.args.call (k, tt) x in
+    let next = all_zipped_more called (take i ks) inv.0 _ c.call.result inv.2 c.call.ensures in (
+      inv.0 ++ c.call.result ∷ [],
+      c.in_ok-push.ensures.items ∙ ap (λ l. l ++ c.call.result ∷ []) inv.1 ∙ append_assoc _ inv.0 (c.call.result ∷ []),
+      subst (λ l. AllZip called l (inv.0 ++ c.call.result ∷ [])) (sym (take_more ks i 0 c.loop-account-test.true)) next,
+    )
 
 pub returns : goal.returns
-returns c =
-    c.loop-account.invariant
-    ∙ ap (λ l. vec_items c.args.calls.now ++ map (pass_call c.args.pass c.args.device) l) (take_all c.loop-account.account-index c.args.accounts.now c.loop-account-test.false)
+returns g c =
+    let inv = c.loop-account.invariant in
+    let called : ℕ → Call → Type 0 = λ k x. g.F.Fn.post c.args.call (k, tt) x in
+    (inv.0, inv.1, subst (λ l. AllZip called l inv.0) (take_all c.loop-account.account-index c.args.accounts.now c.loop-account-test.false) inv.2)

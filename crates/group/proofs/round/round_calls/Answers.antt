@@ -1,5 +1,7 @@
-use Rattle.std.proofs.Common.{◌≡◌, List, [], ◌∷◌, ◌++◌, ap, ◌∙◌, append_assoc}
+use Rattle.std.proofs.Common.{◌≡◌, List, [], ◌∷◌, ◌++◌, ap, ◌∙◌, append_assoc, rules}
 use Rattle.protocol.specs.declared.call.Call.{Call}
+use Rattle.protocol.specs.declared.call.Call.TheVariants.{Read, Send}
+use Rattle.group.proofs.Acting.{added}
 use Rattle.group.proofs.round.round_calls.Goals as goal
 
 -- six parts, one pushed after another
@@ -13,11 +15,13 @@ joined n0 n1 n2 n3 n4 n5 n6 a b c d e x p0 p1 p2 p3 p4 p5 p6 =
 
 pub returns : goal.returns
 returns c =
+    let d = c.args.device in
+    let o = c.args.orders.now in
     joined _ _ _ _ _ _ _ _ _ _ _ _ _
     c.new-calls.ensures.items
-    c.in_ok-push_each.ensures
+    (added (λ k. Read d k) _ o.first.now _ _ (λ k x p. search (rules, p)) c.in_ok-push_each.ensures)
     c.in_ok-push.ensures.items
-    c.in_ok-push_each-2.ensures
-    c.in_ok-push_each-3.ensures
-    c.in_ok-push_each-4.ensures
-    c.in_ok-push_each-5.ensures
+    (added (λ k. Send d k) _ o.second.now _ _ (λ k x p. search (rules, p)) c.in_ok-push_each-2.ensures)
+    (added (λ k. Read d k) _ o.third.now _ _ (λ k x p. search (rules, p)) c.in_ok-push_each-3.ensures)
+    (added (λ k. Send d k) _ o.fourth.now _ _ (λ k x p. search (rules, p)) c.in_ok-push_each-4.ensures)
+    (added (λ k. Read d k) _ o.fifth.now _ _ (λ k x p. search (rules, p)) c.in_ok-push_each-5.ensures)

@@ -1,12 +1,9 @@
-use Rattle.std.proofs.Common.{sym, ◌∙◌, arith}
-use Rattle.group.proofs.Tallying.{above-here, above-later, above-end}
+use Rattle.std.proofs.Common.{nat_lt, rules, tests}
+use Rattle.std.proofs.lemmas.Iterator.{YieldsList-from_slice}
+use Rattle.std.proofs.lemmas.Iterator.Search.{any_from_yields_List}
+use Rattle.protocol.specs.Deciding.{any_above}
 use Rattle.group.proofs.tally.any_above.Goals as goal
 
-pub returns-then-slots-k : goal.returns-then-slots-k
-returns-then-slots-k c = sym (above-here c.args.slots.now c.loop-k.k (omega arith) c.args.ballot c.if-slots-k.true) ∙ c.loop-k.invariant
-
-pub loop-k-preserved : goal.loop-k-preserved
-loop-k-preserved c = sym (above-later c.args.slots.now c.loop-k.k (omega arith) c.args.ballot c.if-slots-k.false) ∙ c.loop-k.invariant
-
 pub returns : goal.returns
-returns c = sym (above-end c.args.slots.now c.loop-k.k (omega arith) c.args.ballot) ∙ c.loop-k.invariant
+unfolding any_above
+returns c = any_from_yields_List (λ s. nat_lt c.args.ballot s.view.promised) _ _ c.any.result c.any.ensures.ran (YieldsList-from_slice c.args.slots.now cc) (λ x b q k. search (rules, tests))

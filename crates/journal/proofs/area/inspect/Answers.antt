@@ -1,10 +1,13 @@
-use Rattle.std.proofs.Common.{◌≡◌, ℕ, ◌*◌, ◌≤◌, min, length, sym, ap, ◌∙◌, arith, rules}
+use Rattle.std.proofs.Common.{◌≡◌, ℕ, Err, ◌*◌, ◌≤◌, min, length, sym, ap, ◌∙◌, arith, rules}
 use Rattle.std.specs.Iterator.Adapters.{enumerate_source, enumerate_count}
 use Rattle.std.specs.Slice.Iter.{chunks_rest, chunks_size}
-use Rattle.record.specs.Entry.{entry_of}
+use Rattle.std.proofs.lemmas.Result.{err_from_is_err_and}
+use Rattle.record.specs.Entry.{entry_of, entry_in}
 use Rattle.record.specs.Layout.{decoded}
 use Rattle.journal.specs.Area.{before, read_area, limit, viewed}
 use Rattle.journal.proofs.Fronts.{read_next, read-end, viewed_from, viewed-start, viewed-more, viewed-bad, viewed-end, inspected-is}
+use Rattle.journal.specs.declared.area.Fault.TheVariants.{Record as Fault-at}
+use Rattle.journal.proofs.Mapping.{was-ok, was-err}
 use Rattle.journal.proofs.area.inspect.Goals as goal
 use Rattle.journal.proofs.area.inspect.Goals.{In-Some}
 
@@ -44,24 +47,29 @@ loop-place-preserved c =
         t.0,
         t.1,
         (λ k. viewed_from w (c.tell.ensures k) (a.2 k) rest)
-            ∙ sym (viewed-more w p v (entry_of c.in-Ok.r) rest)
-            ∙ ap (λ r. viewed_from w v p (before r rest)) c.in-Ok.ensures.value
+            ∙ sym (viewed-more w p v (entry_of c.in_ok-r.r) rest)
+            ∙ ap (λ r. viewed_from w v p (before r rest)) (sym (ap entry_in (was-ok _ c.map_err.result c.from_bytes.result c.map_err.ensures.cases c.in_ok-r.r c.in_ok-r.was)) ∙ c.from_bytes.ensures.value)
             ∙ t.2,
       ),
     )
 
-pub returns-in-Err : goal.returns-in-Err
-returns-in-Err c =
-    let t = turn (goal.at.returns-in-Err c).In-Some in
+pub returns-in_err-r : goal.returns-in_err-r
+returns-in_err-r c =
+    let p = err_from_is_err_and c.from_residual.result c.from_residual.ensures.1 in
+    let q = was-err _ c.map_err.result c.from_bytes.result c.map_err.ensures.cases c.in_err-r.field-0.0 c.in_err-r.was in
+    let f : c.in_err-r.field-0.0 ≡ Fault-at c.in-Some.place q.0 = search (rules, q.2) in
+    let t = turn (goal.at.returns-in_err-r c).In-Some in
     let w = c.args.version in
     let v = c.loop-place.view in
-    let p = enumerate_count c.loop-place.place-iterator in
+    let p' = enumerate_count c.loop-place.place-iterator in
     let rest = read_area t.0 (chunks_rest (enumerate_source c.next.new.self)) in
-    rw c.in-Some.ensures.steps.1
-    (sym (viewed-bad w p v c.in-Err.e rest)
-    ∙ ap (λ r. viewed_from w v p (before r rest)) c.in-Err.ensures.value
+    p.1
+    ∙ ap (λ y. Err y) (p.2 ∙ f)
+    ∙ ap (λ n. Err (Fault-at n q.0)) c.in-Some.ensures.steps.1
+    ∙ sym (viewed-bad w p' v q.0 rest)
+    ∙ ap (λ r. viewed_from w v p' (before r rest)) (sym (ap entry_in q.1) ∙ c.from_bytes.ensures.value)
     ∙ t.2
-    ∙ sym (inspected-is c.args.area.now w c.if-area-ne0.false (search rules) (search rules) c.if-version-eq0.false))
+    ∙ sym (inspected-is c.args.area.now w c.if-area-ne0.false (search rules) (search rules) c.if-version-eq0.false)
 
 pub returns : goal.returns
 returns c =

@@ -1,8 +1,9 @@
-use Rattle.std.proofs.Common.{◌≡◌, suc, ◌+◌, ◌-◌, ◌++◌, map, string_bytes, sym, refl, ap, ◌∙◌, zero-add, arith}
+use Rattle.std.proofs.Common.{◌≡◌, suc, ◌+◌, ◌-◌, ◌++◌, map, string_bytes, sym, refl, ap, ◌∙◌, zero-add, Some, None, cond, is_some, append-nil, add-zero, arith}
 use Rattle.record.specs.Entry.{entry_of}
-use Rattle.report.specs.Report.{version_lines, version_count}
-use Rattle.report.proofs.Steps.{versions-more, counted-more, versions-end, counted-end, occurrence-small}
+use Rattle.report.specs.Report.{version_line, version_lines, version_count}
+use Rattle.report.proofs.Steps.{versions-more, counted-more, occurrence-is, versions-end, counted-end, one_at_most}
 use Rattle.report.proofs.report.version_lines.Goals as goal
+use Rattle.report.proofs.report.version_lines.Goals.{in-Some+in_ok-view_line, in_default}
 
 pub loop-version-init : goal.loop-version-init
 loop-version-init c = (refl, zero-add _, omega arith)
@@ -12,16 +13,25 @@ loop-version-preserved c =
     let w = c.loop-version.version in
     let es = map entry_of c.args.records.now in
     let out = string_bytes c.loop-version.out in
-    let line = c.in_ok-versions.ensures in
     let n : 1024 - w ≡ suc (1024 - (w + 1)) = omega (arith, c.loop-version-test.true) in
-    let inv = c.loop-version.invariant in (
-      versions-more (1024 - (w + 1)) w es out (string_bytes c.version_line.new.out) line.0
+    let inv = c.loop-version.invariant in
+    let is = c.survey.ensures in
+    let line : (string_bytes c.match-survey.out ≡ out ++ version_line w c.survey.result) × (c.match-survey.versions ≡ c.loop-version.versions + cond (is_some c.survey.result) 1 0) =
+    elim c.match-survey.branch [
+      | in-Some+in_ok-view_line x ↦
+          let seen : c.survey.result ≡ Some x.in-Some.view = x.in-Some.is in
+          (ap string_bytes x.out-is ∙ x.in_ok-view_line.ensures ∙ ap (λ o. out ++ version_line w o) (sym seen), x.versions-is ∙ ap (λ o. c.loop-version.versions + cond (is_some o) 1 0) (sym seen))
+      | in_default x ↦
+          let seen : c.survey.result ≡ None = x.in_default.is in
+          (ap string_bytes x.out-is ∙ sym (append-nil out) ∙ ap (λ o. out ++ version_line w o) (sym seen), x.versions-is ∙ sym (add-zero c.loop-version.versions) ∙ ap (λ o. c.loop-version.versions + cond (is_some o) 1 0) (sym seen))
+    ] in (
+      versions-more (1024 - (w + 1)) w es out (string_bytes c.match-survey.out) (line.0 ∙ ap (λ o. out ++ version_line w o) is)
           ∙ ap (λ k. out ++ version_lines k w es) (sym n)
           ∙ inv.0,
-      counted-more (1024 - (w + 1)) w es c.loop-version.versions _ (ap (λ k. c.loop-version.versions + k) line.1)
+      counted-more (1024 - (w + 1)) w es c.loop-version.versions _ (line.1 ∙ ap (λ k. c.loop-version.versions + k) (occurrence-is w es c.survey.result is))
           ∙ ap (λ k. c.loop-version.versions + version_count k w es) (sym n)
           ∙ inv.1,
-      omega (arith, inv.2, line.1, occurrence-small w es),
+      omega (arith, inv.2, line.1, one_at_most c.survey.result),
     )
 
 pub returns : goal.returns

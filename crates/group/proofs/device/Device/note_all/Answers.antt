@@ -15,21 +15,21 @@ blank = record { kind = Prepare; attempt = 0; device = 0; version = 0; value = n
 pub loop-i-init : goal.loop-i-init
 loop-i-init g c =
     let v = device_of c.args.self.now in
-    let p = (slot_at v c.args.k).place in
-    let l = log_of (g.A.Accounts.books c.args.accounts.now) c.args.k in
+    let p = (slot_at v c.args.k.number).place in
+    let l = log_of (g.A.Accounts.books c.args.accounts.now) c.args.k.number in
     let z : 0 ≡ p - p = omega arith in
-    c.notes-notes.ensures ∙ ap (λ n. fold (noted c.args.d v) (notes_before v c.args.k) (take n (drop p l))) z
+    c.notes-notes.ensures ∙ ap (λ n. fold (noted c.args.d.number v) (notes_before v c.args.k.number) (take n (drop p l))) z
 
 pub loop-i-preserved : goal.loop-i-preserved
 loop-i-preserved g c =
     let v = device_of c.args.self.now in
-    let k = c.args.k in
+    let k = c.args.k.number in
     let i = c.loop-i.i in
     let bs = g.A.Accounts.books c.args.accounts.now in
     let l = log_of bs k in
     let e = get_or l i blank in
-    let f = noted c.args.d v in
-    let h : i < length l = omega (arith, c.requires.length, c.loop-i-test.true) in
+    let f = noted c.args.d.number v in
+    let h : i < length l = omega (arith, c.requires, c.loop-i-test.true) in
     let r = c.read.ensures ∙ read-of-log bs k i blank h in
     let more = folded-part f (notes_before v k) l (slot_at v k).place i blank c.loop-i.auto.i h in
     elim c.match-read.branch [
@@ -42,8 +42,8 @@ loop-i-preserved g c =
 pub returns : goal.returns
 returns g c =
     let v = device_of c.args.self.now in
-    let p = (slot_at v c.args.k).place in
+    let p = (slot_at v c.args.k.number).place in
     let bs = g.A.Accounts.books c.args.accounts.now in
-    let l = log_of bs c.args.k in
-    let m : length (drop p l) ≤ c.loop-i.i - p = rw length-drop (omega (arith, c.requires.length, c.loop-i-test.false)) in
-    c.loop-i.invariant ∙ ap (fold (noted c.args.d v) (notes_before v c.args.k)) (take_all (c.loop-i.i - p) (drop p l) m)
+    let l = log_of bs c.args.k.number in
+    let m : length (drop p l) ≤ c.loop-i.i - p = rw length-drop (omega (arith, c.requires, c.loop-i-test.false)) in
+    c.loop-i.invariant ∙ ap (fold (noted c.args.d.number v) (notes_before v c.args.k.number)) (take_all (c.loop-i.i - p) (drop p l) m)

@@ -8,5 +8,5 @@ use Rattle.group.proofs.device.Device.note_all.Given as goal
 abbrev pub invariant-loop-i : goal.invariant-loop-i
 invariant-loop-i g l =
     let v = device_of l.self in
-    let p = (slot_at v l.k).place in
-    l.notes ≡ fold (noted l.d v) (notes_before v l.k) (take (l.i - p) (drop p (log_of (g.A.Accounts.books l.accounts) l.k)))
+    let p = (slot_at v l.k.number).place in
+    l.notes ≡ fold (noted l.d.number v) (notes_before v l.k.number) (take (l.i - p) (drop p (log_of (g.A.Accounts.books l.accounts) l.k.number)))

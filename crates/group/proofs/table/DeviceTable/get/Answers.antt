@@ -4,4 +4,4 @@ use Rattle.group.proofs.Rows.{row_at}
 use Rattle.group.proofs.table.DeviceTable.get.Goals as goal
 
 pub returns : goal.returns
-returns c = ap device_of c.index-rows-d.is ∙ row_at c.args.self.now.rows c.args.d c.index-rows-d.result (omega arith)
+returns c = ap device_of c.index-rows-d.is ∙ row_at c.args.self.now.rows c.args.d.number c.index-rows-d.result (omega arith)

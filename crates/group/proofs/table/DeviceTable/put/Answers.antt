@@ -3,4 +3,4 @@ use Rattle.group.specs.Models.{device_of}
 use Rattle.group.proofs.table.DeviceTable.put.Goals as goal
 
 pub returns : goal.returns
-returns c = map-set device_of c.args.self.now.rows c.args.d c.args.device
+returns c = map-set device_of c.args.self.now.rows c.args.d.number c.args.device

@@ -4,4 +4,4 @@ use Rattle.group.proofs.Rows.{row-change}
 use Rattle.group.proofs.table.DeviceTable.set_link.Goals as goal
 
 pub returns : goal.returns
-returns c = row-change c.args.self.now.rows c.args.d c.index-self-d.result _ (λ v. with_link v c.args.k c.args.link) refl
+returns c = row-change c.args.self.now.rows c.args.d.number c.index-self-d.result _ (λ v. with_link v c.args.k.number c.args.link) refl

@@ -1,17 +1,19 @@
-use Rattle.std.proofs.Common.{◌≡◌, ◌+◌, ◌*◌, ◌/◌, ◌<◌, ◌≤◌, true, eqb, [], ◌∷◌, ◌++◌, length, get_or, take, drop, set, is_ok, Ok, sym, refl, ap, ◌∙◌, ⊎_elim, add-one, arith, length-set}
-use lib.Seq.{paste, paste-zero, paste-suc, length-paste}
+use Rattle.std.proofs.Common.{◌≡◌, ℕ, List, ◌-◌, below_more, ◌+◌, ◌*◌, ◌/◌, ◌<◌, ◌≤◌, eqb, ◌++◌, length, take, drop, is_ok, Ok, sym, refl, ap, ◌∙◌, arith}
+use lib.Seq.{paste, length-paste}
+use borrow.Rule.Slice.PartMut.{put_mid}
+use Rattle.std.proofs.lemmas.Slice.{put_mid-paste}
 use Rattle.std.proofs.lemmas.List.{take_all}
-use Rattle.std.proofs.lemmas.Bool.{cases_eq, cond-true, cond-false, eq-eqb, ne_eqb}
+use Rattle.std.proofs.lemmas.Bool.{cond-true, cond-false, eq-eqb, ne_eqb}
 use Rattle.std.specs.Int.Digits.{number_from_digits}
 use Rattle.record.specs.Entry.{entry_of}
 use Rattle.record.specs.Layout.{decoded, unpacked, entry_from}
 use Rattle.storage.specs.Areas.{area_book, slot, record_at}
 use Rattle.storage.specs.Places.{placed}
 use Rattle.storage.proofs.Placing.{placed-full, placed-more}
-use Rattle.storage.proofs.Slots.{slot-set, slot-new, slot-old}
+use Rattle.storage.proofs.Slots.{slot-new, slot-old}
 use Rattle.storage.proofs.Sound.{decoded-is}
 use Rattle.storage.proofs.byte_log.calls.ByteLogAccount.append.Goals as goal
-use Rattle.storage.proofs.byte_log.calls.ByteLogAccount.append.Goals.{After-loop-i}
+use Rattle.storage.proofs.byte_log.calls.ByteLogAccount.append.Goals.{After-copy_from_slice}
 
 pub returns-then-at-self : goal.returns-then-at-self
 unfolding area_book
@@ -25,87 +27,67 @@ returns-then-at-self c =
       area = sym (cond-true (eqb s.used m) _ _ (eq-eqb s.used m e));
     }
 
-pub loop-i-init : goal.loop-i-init
-loop-i-init c = (refl, paste-zero c.args.self.now.area.now (c.args.self.now.used * 16) c.to_bytes-bytes.result, refl)
+-- the area after the write
+abbrev area-now : After-copy_from_slice → List ℕ
+area-now c = put_mid (c.args.self.now.used * 16) (c.args.self.now.used * 16 + 16 - c.args.self.now.used * 16) c.args.self.now.area.now c.copy_from_slice.new.self
 
--- a write past the records leaves them
-pub invariant_of-self : goal.invariant_of-self
-invariant_of-self c =
-    let s = c.loop-i.self in
-    record {
-      whole = simp length-set s.whole;
-      within = simp length-set s.within;
-      sound = λ k h. ap (λ x. is_ok (decoded x)) (slot-set s.area.now k _ _ (omega (arith, c.loop-i.invariant.0))) ∙ s.sound k h;
-    }
-
-pub loop-i-preserved : goal.loop-i-preserved
-loop-i-preserved c =
-    let bs = c.args.self.now.area.now in
-    let new = c.to_bytes-bytes.result in
-    let at = c.args.self.now.used * 16 in
-    let i = c.loop-i.i in
-    let long : length new ≡ 16 = ap length c.to_bytes-bytes.ensures.value in (
-      c.loop-i.invariant.0,
-      ap (λ x. set x (at + i) (get_or new i 0)) c.loop-i.invariant.1
-          ∙ paste-suc bs at new i 0 (omega arith) (omega arith)
-          ∙ ap (paste bs at new) (sym (add-one i)),
-      c.loop-i.invariant.2,
-    )
-
--- the area after the loop
-area-is : (c : After-loop-i) → c.loop-i.self.area.now ≡ paste c.args.self.now.area.now (c.args.self.now.used * 16) c.to_bytes-bytes.result 16
+area-is : (c : After-copy_from_slice) → area-now c ≡ paste c.args.self.now.area.now (c.args.self.now.used * 16) c.to_bytes.result 16
 area-is c =
-    let e : c.loop-i.i ≡ 16 = omega arith in
-    c.loop-i.invariant.1 ∙ ap (paste c.args.self.now.area.now (c.args.self.now.used * 16) c.to_bytes-bytes.result) e
+    put_mid-paste (c.args.self.now.used * 16) (c.args.self.now.used * 16 + 16 - c.args.self.now.used * 16) c.args.self.now.area.now c.copy_from_slice.new.self c.to_bytes.result 16
+    c.copy_from_slice.ensures.after
+    (omega arith)
+    (sym (ap length c.to_bytes.ensures.value))
 
-inside : (c : After-loop-i) → c.args.self.now.used * 16 + 16 ≤ length c.args.self.now.area.now
+inside : (c : After-copy_from_slice) → c.args.self.now.used * 16 + 16 ≤ length c.args.self.now.area.now
 inside c = omega arith
 
-area-long : (c : After-loop-i) → length c.loop-i.self.area.now ≡ length c.args.self.now.area.now
+area-long : (c : After-copy_from_slice) → length (area-now c) ≡ length c.args.self.now.area.now
 area-long c =
     ap length (area-is c)
-    ∙ length-paste c.args.self.now.area.now (c.args.self.now.used * 16) c.to_bytes-bytes.result 16 (inside c) (omega (arith, ap length c.to_bytes-bytes.ensures.value))
+    ∙ length-paste c.args.self.now.area.now (c.args.self.now.used * 16) c.to_bytes.result 16 (inside c) (omega (arith, ap length c.to_bytes.ensures.value))
 
-new-slot : (c : After-loop-i) → slot c.loop-i.self.area.now c.args.self.now.used ≡ c.to_bytes-bytes.result
+new-slot : (c : After-copy_from_slice) → slot (area-now c) c.args.self.now.used ≡ c.to_bytes.result
 new-slot c =
     let s = c.args.self.now in
     ap (λ x. slot x s.used) (area-is c)
-    ∙ slot-new s.area.now c.to_bytes-bytes.result s.used (inside c) (ap length c.to_bytes-bytes.ensures.value)
+    ∙ slot-new s.area.now c.to_bytes.result s.used (inside c) (ap length c.to_bytes.ensures.value)
 
-new-sound : (c : After-loop-i) → is_ok (decoded (slot c.loop-i.self.area.now c.args.self.now.used)) ≡ true
-new-sound c = ap (λ x. is_ok (decoded x)) (new-slot c) ∙ ap is_ok c.to_bytes-bytes.ensures.back
+old-slot : (c : After-copy_from_slice) (k : ℕ) → k < c.args.self.now.used → slot (area-now c) k ≡ slot c.args.self.now.area.now k
+old-slot c k h =
+    ap (λ x. slot x k) (area-is c)
+    ∙ slot-old c.args.self.now.area.now c.to_bytes.result c.args.self.now.used (inside c) (ap length c.to_bytes.ensures.value) k h
 
-pub invariant_of-self-2 : goal.invariant_of-self-2
-invariant_of-self-2 c =
-    let s = c.loop-i.self in
-    let n = c.args.self.now.used in
+pub invariant_of-self : goal.invariant_of-self
+invariant_of-self c =
+    let a = (goal.at.invariant_of-self c).After-copy_from_slice in
+    let s = c.args.self.now in
     record {
-      whole = s.whole;
-      within = omega (arith, inside c, area-long c);
-      sound = λ k h. ⊎_elim (λ e. ap (λ j. is_ok (decoded (slot s.area.now j))) e ∙ new-sound c) (λ e. s.sound k (omega (arith, c.loop-i.invariant.0))) (cases_eq k n);
+      whole = rw (area-long a) s.whole;
+      within = omega (arith, inside a, area-long a);
+      sound =
+          below_more _ _ (λ k h. ap (λ x. is_ok (decoded x)) (old-slot a k h) ∙ s.sound k h)
+          (ap (λ x. is_ok (decoded x)) (new-slot a) ∙ ap is_ok c.to_bytes.ensures.back);
     }
 
 pub returns : goal.returns
 unfolding area_book
 returns c =
-    let a = (goal.at.returns c).After-loop-i in
+    let a = (goal.at.returns c).After-copy_from_slice in
     let s = c.args.self.now in
     let bs = s.area.now in
-    let cs = c.loop-i.self.area.now in
-    let new = c.to_bytes-bytes.result in
     let n = s.used in
     let e = entry_of c.args.r.now in
-    let long : length new ≡ 16 = ap length c.to_bytes-bytes.ensures.value in
+    let new = c.to_bytes.result in
     let h : n < length bs / 16 = omega (arith, inside a) in
     record {
       call =
-          ap (λ m. (Ok (n + 1), placed (record_at cs) (n + 1) (m / 16))) (area-long a)
-          ∙ placed-more (record_at bs) n (length bs / 16) e (record_at cs) h
-          (λ i g. ap (λ x. entry_from (unpacked (number_from_digits 256 x))) (ap (λ x. slot x i) (area-is a) ∙ slot-old bs new n (inside a) long i g))
-          (ap (λ x. entry_from (unpacked (number_from_digits 256 x))) (new-slot a) ∙ decoded-is new e c.to_bytes-bytes.ensures.back);
-      lent = ap (λ x. x ∷ []) c.loop-i.invariant.2;
+          ap (λ m. (Ok (n + 1), placed (record_at (area-now a)) (n + 1) (m / 16))) (area-long a)
+          ∙ placed-more (record_at bs) n (length bs / 16) e (record_at (area-now a)) h
+          (λ i g. ap (λ x. entry_from (unpacked (number_from_digits 256 x))) (old-slot a i g))
+          (ap (λ x. entry_from (unpacked (number_from_digits 256 x))) (new-slot a) ∙ decoded-is new e c.to_bytes.ensures.back);
+      lent = refl;
       area =
           area-is a
-          ∙ ap (λ x. take (n * 16) bs ++ x ++ drop (n * 16 + 16) bs) (take_all 16 new (omega arith) ∙ c.to_bytes-bytes.ensures.value)
+          ∙ ap (λ x. take (n * 16) bs ++ x ++ drop (n * 16 + 16) bs) (take_all 16 new (omega (arith, ap length c.to_bytes.ensures.value)) ∙ c.to_bytes.ensures.value)
           ∙ sym (cond-false (eqb n (length bs / 16)) _ _ (ne_eqb n (length bs / 16) (λ p. omega arith)));
     }

@@ -9,7 +9,7 @@ use Rattle.storage.specs.declared.row.Row.{Row}
 use Rattle.storage.proofs.Placing.{placed-full, placed-more}
 use Rattle.storage.proofs.Sound.{numbers-back, numbers-is}
 use Rattle.storage.proofs.versioned_file.calls.VersionedFileAccount.append.Goals as goal
-use Rattle.storage.proofs.versioned_file.calls.VersionedFileAccount.append.Goals.{After-row_of}
+use Rattle.storage.proofs.versioned_file.calls.VersionedFileAccount.append.Goals.{After-new}
 
 pub returns-then-used-self : goal.returns-then-used-self
 unfolding row_book
@@ -24,17 +24,17 @@ returns-then-used-self c =
     }
 
 -- the rows after the write
-abbrev rows-now : After-row_of → List Row
-rows-now c = set c.args.self.now.rows.now c.args.self.now.used c.row_of.result
+abbrev rows-now : After-new → List Row
+rows-now c = set c.args.self.now.rows.now c.args.self.now.used c.new.result
 
-row_new : (c : After-row_of) → row_at (rows-now c) c.args.self.now.used ≡ row_of (entry_of c.args.r.now) c.args.self.now.used
+row_new : (c : After-new) → row_at (rows-now c) c.args.self.now.used ≡ row_of (entry_of c.args.r.now) c.args.self.now.used
 row_new c =
-    get_or-set_same c.args.self.now.rows.now c.args.self.now.used c.row_of.result blank c.if-used-self.false
-    ∙ c.row_of.ensures
+    get_or-set_same c.args.self.now.rows.now c.args.self.now.used c.new.result blank c.if-used-self.false
+    ∙ c.new.ensures
 
-row_old : (c : After-row_of) (k : ℕ) → k < c.args.self.now.used → row_at (rows-now c) k ≡ row_at c.args.self.now.rows.now k
+row_old : (c : After-new) (k : ℕ) → k < c.args.self.now.used → row_at (rows-now c) k ≡ row_at c.args.self.now.rows.now k
 row_old c k h =
-    get_or-set_other c.args.self.now.rows.now c.args.self.now.used k c.row_of.result blank (λ e. omega arith)
+    get_or-set_other c.args.self.now.rows.now c.args.self.now.used k c.new.result blank (λ e. omega arith)
 
 pub invariant_of-self : goal.invariant_of-self
 invariant_of-self c =
@@ -52,7 +52,7 @@ invariant_of-self c =
 pub returns : goal.returns
 unfolding row_book
 returns c =
-    let a = (goal.at.returns c).After-row_of in
+    let a = (goal.at.returns c).After-new in
     let s = c.args.self.now in
     let rs = s.rows.now in
     let n = s.used in
@@ -60,12 +60,12 @@ returns c =
     let means = λ (x : Row). entry_from (numbers_of x) in
     record {
       call =
-          ap (λ m. (Ok (n + 1), placed (λ k. means (row_at (rows-now a) k)) (n + 1) m)) (length-set rs n c.row_of.result)
+          ap (λ m. (Ok (n + 1), placed (λ k. means (row_at (rows-now a) k)) (n + 1) m)) (length-set rs n c.new.result)
           ∙ placed-more (λ k. means (row_at rs k)) n (length rs) (entry_of r) (λ k. means (row_at (rows-now a) k)) c.if-used-self.false
           (λ i g. ap means (row_old a i g))
           (ap means (row_new a) ∙ numbers-is (numbers_in (entry_of r)) (entry_of r) (numbers-back r));
       lent = refl;
       rows =
-          ap (set rs n) c.row_of.ensures
+          ap (set rs n) c.new.ensures
           ∙ sym (cond-false (eqb n (length rs)) _ _ (ne_eqb n (length rs) (λ e. omega arith)));
     }

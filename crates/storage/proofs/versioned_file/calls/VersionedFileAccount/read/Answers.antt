@@ -17,7 +17,7 @@ returns c =
     let h : k < s.used = omega arith in
     let e : c.loop-at.at ≡ k = omega arith in
     c.from_numbers.ensures
-    ∙ ap from_numbers c.numbers_of.ensures
+    ∙ ap from_numbers c.into.ensures
     ∙ ap (λ i. from_numbers (numbers_of (row_at s.rows.now i))) e
     ∙ numbers-ok (numbers_of (row_at s.rows.now k)) (s.sound k h)
     ∙ sym (placed-read _ s.used k h)

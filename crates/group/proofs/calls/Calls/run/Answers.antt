@@ -1,20 +1,19 @@
 use Rattle.std.proofs.Common.{vec_items, ◌∙◌, arith}
 use Rattle.protocol.specs.declared.call.Call.TheVariants.{Join}
 use Rattle.protocol.proofs.Ending.{one-order-from}
-use Rattle.group.specs.Models.{model_of}
 use Rattle.group.proofs.Acting.{run_none, run_more, run-all, ran-nothing}
-use Rattle.group.proofs.group.Group.run.Goals as goal
+use Rattle.group.proofs.calls.Calls.run.Goals as goal
 
 pub loop-call-init : goal.loop-call-init
 loop-call-init g c =
-    let m = model_of g.A.Accounts.books g.A.Accounts.lent g.Q.Quorum.rule c.args.self.now in
+    let m = g.Self.Calls.model c.args.self.now in
     let made = c.in_ok-answers.ensures in
     (made.len, made.capacity, (λ i. (made.items i, m)) ∙ run_none m c.args.calls.now)
 
 pub loop-call-preserved : goal.loop-call-preserved
 loop-call-preserved g c =
     let inv = c.loop-call.invariant in
-    let model = model_of g.A.Accounts.books g.A.Accounts.lent g.Q.Quorum.rule in
+    let model = g.Self.Calls.model in
     let cs = c.args.calls.now in
     let i = c.loop-call.call-index in
     let next =
@@ -28,14 +27,14 @@ loop-call-preserved g c =
 pub returns-in_err-answers : goal.returns-in_err-answers
 returns-in_err-answers g c =
     record {
-      run = ran-nothing (model_of g.A.Accounts.books g.A.Accounts.lent g.Q.Quorum.rule) c.args.self.now c.args.calls.now c.from_residual.result c.from_residual.ensures.0;
-      order = one-order-from _ (g.met.Q.Quorum.lawful c.args.self.now.quorum) _ _;
+      run = ran-nothing (g.Self.Calls.model c.args.self.now) c.args.calls.now c.from_residual.result c.from_residual.ensures.0;
+      order = one-order-from _ (g.met.Self.Calls.lawful c.args.self.now) _ _;
     }
 
 pub returns : goal.returns
 returns g c =
-    let model = model_of g.A.Accounts.books g.A.Accounts.lent g.Q.Quorum.rule in
+    let model = g.Self.Calls.model in
     record {
       run = run-all (model c.args.self.now) (model c.loop-call.self) c.args.calls.now c.loop-call.call-index (vec_items c.loop-call.answers) c.loop-call-test.false c.loop-call.invariant.2;
-      order = one-order-from _ (g.met.Q.Quorum.lawful c.args.self.now.quorum) _ _;
+      order = one-order-from _ (g.met.Self.Calls.lawful c.args.self.now) _ _;
     }
