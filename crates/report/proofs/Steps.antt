@@ -1,18 +1,18 @@
 -- A loop over records, by what is still to come. Assumes nothing.
-use Rattle.std.proofs.Common.{not, ◌==◌, ◌≡◌, ℕ, suc, ◌+◌, ◌-◌, ◌<◌, ◌≤◌, Bool, true, false, cond, ◌||◌, List, [], ◌∷◌, ◌++◌, map, length, get_or, drop, is_some, IfOk, Some, None, Option, Result, sym, refl, ap, ◌∙◌, append-nil, add-zero, add-one, arith, drop-cons}
-use lib.ListN.{length-map}
+use Rattle.std.proofs.Common.{not, ◌==◌, ◌≡◌, ℕ, suc, ◌+◌, ◌<◌, ◌≤◌, Bool, true, false, cond, ◌||◌, List, [], ◌∷◌, ◌++◌, map, length, get_or, drop, is_some, Some, None, Option, sym, refl, ap, ◌∙◌, append-nil, append_assoc, add-zero, add-one, arith, drop-cons}
 use Rattle.std.proofs.lemmas.List.{drop_all}
 use Rattle.journal.specs.Log.{is_accept, says}
 use Rattle.journal.specs.declared.view.View.{View}
 use Rattle.record.specs.Entry.{Entry, entry_of}
 use Rattle.std.specs.List.{list_any}
 use Rattle.std.proofs.lemmas.List.Sums.{count_by-le-length}
-use Rattle.std.proofs.lemmas.Result.{IfOk-weaker}
 use Rattle.record.specs.declared.record.Record.{Record}
-use Rattle.record.specs.declared.refusal.Refusal.{Refusal}
-use Rattle.report.specs.Report.{record_lines, occurs, prepares, surveyed, version_line, version_lines, version_count, occurrence, refusal_lines, front_text}
-use Rattle.report.specs.Lines.{record_line, closing_line}
-use Rattle.report.proofs.Writes.{wrote_then, wrote-first}
+use Rattle.report.specs.Report.{record_lines, occurs, prepares, surveyed, version_line, version_lines, version_count, occurrence}
+use Rattle.report.specs.Lines.{record_line}
+
+-- a piece that is written is one less to come
+wrote-first : (a b x y : List ℕ) → b ≡ a ++ x → b ++ y ≡ a ++ (x ++ y)
+wrote-first a b x y p = ap (λ z. z ++ y) p ∙ append_assoc a x y
 
 module _ (rs : List Record) (i : ℕ) where
   -- the record at hand, and those after it
@@ -67,18 +67,6 @@ one_at_most (Some x) = omega arith
 
 pub prepares-few : (es : List Entry) → prepares es ≤ length es
 prepares-few es = count_by-le-length (λ e. not (is_accept e.kind)) es
-
--- the parts of a report, one after another
-pub front-is : {T E : Type 0} (r : Result T E) (rs : List Record) (o : Option Refusal) (a b c d x : List ℕ) (p n : ℕ)
-    → b ≡ a ++ record_lines 0 (map entry_of rs) → c ≡ b ++ refusal_lines (length rs) o → d ≡ c ++ version_lines 1023 1 (map entry_of rs)
-    → n ≡ version_count 1023 1 (map entry_of rs) → p ≡ prepares (map entry_of rs)
-    → IfOk r (λ _. x ≡ d ++ closing_line p (length rs - p) n) → IfOk r (λ _. x ≡ a ++ front_text (map entry_of rs) o)
-front-is r rs o a b c d x p n e f g h k m =
-    let es = map entry_of rs in
-    let l = sym (length-map rs entry_of) in
-    let m' = IfOk-weaker r _ (λ _. x ≡ d ++ closing_line (prepares es) (length es - prepares es) (version_count 1023 1 es)) (λ _ q. q ∙ (λ i. d ++ closing_line (k i) (l i - k i) (h i))) m in
-    let f' = f ∙ ap (λ z. b ++ refusal_lines z o) l in
-    wrote_then r a b x _ _ e (wrote_then r b c x _ _ f' (wrote_then r c d x _ _ g m'))
 
 -- a test of what records say is the test of the records
 pub occurs_is : (w : ℕ) (rs : List Record) → list_any (λ r. r.version == w) rs ≡ occurs w (map entry_of rs)

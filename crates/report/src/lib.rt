@@ -2,4 +2,5 @@
 #![tactic(auto)]
 
 pub mod lines;
+mod page;
 pub mod report;
