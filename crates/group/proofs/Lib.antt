@@ -2,5 +2,4 @@ pub mod Acting
 pub mod Arrays
 pub mod Emptiness
 pub mod Logs
-pub mod Rows
 pub mod Tallying

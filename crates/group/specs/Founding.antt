@@ -9,7 +9,7 @@ use Rattle.protocol.specs.State.{State}
 use Rattle.protocol.specs.Device.{new_device}
 use Rattle.protocol.specs.Runs.{runs}
 use Rattle.protocol.specs.declared.call.Call.{Call}
-use Rattle.group.specs.Models.{Model, devices_of}
+use Rattle.group.specs.Models.{Model}
 use Rattle.group.specs.declared.found.NotRun.{NotRun}
 use Rattle.group.specs.declared.found.NotRun.TheVariants.{Refused, NoMemory}
 use Rattle.group.specs.declared.found.Replay.{Replay}
@@ -31,6 +31,6 @@ new_model R names bs = record { rule = R; lent = names; state = new_state bs }
 -- a group is founded on these books and the calls cs are made: their answers, and the devices in the end. Else no call is made
 abbrev pub Replayed : Rule → List Book → List Call → Result Replay NotRun → Type 0
 Replayed R bs cs (Ok p) =
-    (vec_items p.answers ≡ (runs R (new_state bs) cs).0) × (devices_of p.devices ≡ (runs R (new_state bs) cs).1.devices)
+    (vec_items p.answers ≡ (runs R (new_state bs) cs).0) × (p.devices ≡ (runs R (new_state bs) cs).1.devices)
 Replayed R bs cs (Err (Refused d)) = Err d ≡ founding R bs
 Replayed R bs cs (Err (NoMemory e)) = founding R bs ≡ Ok tt

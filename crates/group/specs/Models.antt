@@ -11,37 +11,14 @@ use Rattle.protocol.specs.State.{State, no_book}
 use Rattle.protocol.specs.Device as model
 use Rattle.protocol.specs.Reading.{notes_after}
 use Rattle.protocol.specs.declared.notes.Notes.{Notes}
-use Rattle.group.specs.declared.device.Device.{Device}
 use Rattle.group.specs.declared.group.Group.{Group}
-use Rattle.group.specs.declared.table.DeviceTable.{DeviceTable}
 
-abbrev pub device_of : Device → model.Device
-device_of v =
-    record {
-      joined = v.joined;
-      attempt = v.attempt;
-      known = v.known;
-      value = v.value;
-      phase = v.phase;
-      proposed = v.proposed;
-      carried = v.carried;
-      seen = v.seen;
-      links = v.links;
-      slots = v.slots;
-    }
-
-abbrev pub devices_of : DeviceTable → List model.Device
-devices_of t = map device_of t.rows
-
-abbrev pub device_in : DeviceTable → ℕ → model.Device
-device_in t d = slice_index_or (devices_of t) d (model.new_device false)
+abbrev pub device_in : List model.Device → ℕ → model.Device
+device_in vs d = slice_index_or vs d (model.new_device false)
 
 -- device d, if there is one
 abbrev pub sought : List model.Device → ℕ → Option model.Device
-sought vs d = cond (nat_lt 15 d) None (Some (slice_index_or vs d (model.new_device false)))
-
-abbrev pub put_in : DeviceTable → ℕ → model.Device → List model.Device
-put_in t d v = slice_set (devices_of t) d v
+sought vs d = cond (nat_lt 15 d) None (Some (device_in vs d))
 
 -- the next attempt of a device, unless there is none
 abbrev pub next_in : model.Device → Result ℕ Refusal
@@ -60,13 +37,13 @@ caught_up_to v k place n =
     model.with_slot v k (record (model.slot_at v k) { place = place; view = n.view; own = n.own }) n.seen
 
 -- device d begins its next attempt for the value x, unless there is none
-abbrev pub attempted_in : DeviceTable → ℕ → Value → Result ℕ Refusal × List model.Device
-attempted_in t d x =
-    let v = device_in t d in
-    cond (nat_lt model.last_attempt (model.next_attempt v)) (Err NoAttemptLeft, devices_of t) (Ok (model.next_attempt v), put_in t d (model.opened v x))
+abbrev pub attempted_in : List model.Device → ℕ → Value → Result ℕ Refusal × List model.Device
+attempted_in vs d x =
+    let v = device_in vs d in
+    cond (nat_lt model.last_attempt (model.next_attempt v)) (Err NoAttemptLeft, vs) (Ok (model.next_attempt v), slice_set vs d (model.opened v x))
 
-abbrev pub state_of : List Book → DeviceTable → State
-state_of bs t = record { books = bs; devices = devices_of t }
+abbrev pub state_of : List Book → List model.Device → State
+state_of bs vs = record { books = bs; devices = vs }
 
 -- a group: its rule, the names of the memory that its accounts were lent, and its state
 pub record Model : Type 0 where

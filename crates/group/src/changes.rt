@@ -1,8 +1,9 @@
 ghost use Rattle.std.specs.Prelude.{◌≡◌, ◌<◌, ◌≤◌, true};
-ghost use Rattle.protocol.specs.Device.{new_device, next_attempt, opened, holding, own_ballot, request, is_open};
+ghost use Rattle.protocol.specs.Device.{new_device, restarted, with_link, next_attempt, opened, holding, own_ballot, request, is_open};
 ghost use Rattle.record.specs.Entry.{entry_of};
-ghost use Rattle.group.specs.Models.{device_of, next_in};
+ghost use Rattle.group.specs.Models.{next_in};
 
+use crate::account_number::AccountNumber;
 use crate::device::Device;
 use crate::device_number::DeviceNumber;
 use protocol::link::Link;
@@ -16,7 +17,7 @@ use record::value::Value;
 impl Device {
     // Everything is 0, unmarked and idle.
     pub(crate) fn new(joined: bool) -> Device
-        ensures { device_of result ≡ new_device joined }
+        ensures { result ≡ new_device joined }
     {
         Device {
             joined,
@@ -40,7 +41,7 @@ impl Device {
 
     // The attempt that a proposal would use next, if one is left.
     pub(crate) fn next_attempt(&self) -> Result<u16, Refusal>
-        ensures { result ≡ next_in (device_of self.now) }
+        ensures { result ≡ next_in self.now }
     {
         let highest = self.attempt.max(self.seen);
         if highest == u16::MAX {
@@ -51,24 +52,25 @@ impl Device {
 
     // Prepares a value under the next attempt, and nothing is marked.
     pub(crate) fn begin(&mut self, attempt: u16, value: Value)
-        requires next { attempt ≡ next_attempt (device_of self.old) }
+        requires next { attempt ≡ next_attempt self.old }
         requires version { self.old.known < 1023 }
-        ensures { device_of self.new ≡ opened (device_of self.old) value }
+        ensures { self.new ≡ opened self.old value }
     {
         self.attempt = attempt;
         self.phase = Phase::Preparing;
         self.proposed = value;
-        self.slots = self.slots.map(|slot| Slot {
+        let slots = self.slots.map(|slot| Slot {
             sent: false,
             own: false,
             ..slot
         });
+        self.slots = slots;
     }
 
     // Holds a version and begins anew, with its attempt and its links as they were.
     pub(crate) fn hold(&mut self, known: u16, value: Value)
         requires { known ≤ 1023 }
-        ensures { device_of self.new ≡ holding (device_of self.old) known value }
+        ensures { self.new ≡ holding self.old known value }
     {
         self.known = known;
         self.value = value;
@@ -79,9 +81,22 @@ impl Device {
         self.slots = [Slot::FRESH; 7];
     }
 
+    // Begins anew, with its attempt, what it holds and its links as they were.
+    pub(crate) fn restart(&mut self)
+        ensures { self.new ≡ restarted self.old }
+    {
+        self.hold(self.known, self.value);
+    }
+
+    pub(crate) fn set_link(&mut self, k: AccountNumber, link: Link)
+        ensures { self.new ≡ with_link self.old k.number link }
+    {
+        self.links[k.number] = link;
+    }
+
     // The ballot of its requests, as device d.
     pub(crate) fn ballot(&self, d: DeviceNumber) -> u32
-        ensures { result ≡ own_ballot d.number (device_of self.now) }
+        ensures { result ≡ own_ballot d.number self.now }
     {
         self.attempt as u32 * 16 + d.number as u32
     }
@@ -89,7 +104,7 @@ impl Device {
     // What it asks of an account, as device d.
     pub(crate) fn request(&self, d: DeviceNumber) -> Record
         requires { is_open self.now.phase ≡ true }
-        ensures { entry_of result ≡ request d.number (device_of self.now) }
+        ensures { entry_of result ≡ request d.number self.now }
     {
         let (kind, value) = match self.phase {
             Phase::Accepting => (Kind::Accept, self.carried),

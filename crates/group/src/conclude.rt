@@ -1,7 +1,7 @@
 ghost use Rattle.std.specs.Prelude.{◌≡◌, ◌<◌, OnSome};
 ghost use Rattle.protocol.specs.Deciding.{choice, decision, undecided, concluded};
 ghost use Rattle.protocol.specs.Device.{carrying};
-ghost use Rattle.group.specs.Models.{device_of, caught_up_to};
+ghost use Rattle.group.specs.Models.{caught_up_to};
 
 use crate::account_number::AccountNumber;
 use crate::device::Device;
@@ -17,7 +17,7 @@ use record::value::Value;
 impl Device {
     // Keeps what was noted of account k up to its end.
     pub(crate) fn catch_up(&mut self, k: AccountNumber, end: usize, notes: Notes)
-        ensures { device_of self.new ≡ caught_up_to (device_of self.old) k.number end notes }
+        ensures { self.new ≡ caught_up_to self.old k.number end notes }
     {
         let slot = &mut self.slots[k.number];
         slot.place = end;
@@ -28,7 +28,7 @@ impl Device {
 
     // The value of its next version, if what it has read decides it.
     fn decision<Q: Quorum>(&self, quorum: &Q) -> Option<Value>
-        ensures value { result ≡ decision (Q.Quorum.rule quorum.now) (device_of self.now) }
+        ensures value { result ≡ decision (Q.Quorum.rule quorum.now) self.now }
         ensures bound { OnSome result (self.now.known < 1023) }
     {
         if self.known == 1023 {
@@ -41,7 +41,7 @@ impl Device {
     }
 
     fn choose(&self) -> Value
-        ensures { result ≡ choice (device_of self.now) }
+        ensures { result ≡ choice self.now }
     {
         let best = highest_accepted(&self.slots);
         if best.accepted == 0 {
@@ -54,19 +54,20 @@ impl Device {
     // Asks for a value to be accepted, and has sent that nowhere.
     fn carry(&mut self, value: Value)
         requires { self.old.phase ≡ Phase.Preparing }
-        ensures { device_of self.new ≡ carrying (device_of self.old) value }
+        ensures { self.new ≡ carrying self.old value }
     {
         self.carried = value;
         self.phase = Phase::Accepting;
-        self.slots = self.slots.map(|slot| Slot {
+        let slots = self.slots.map(|slot| Slot {
             sent: false,
             ..slot
         });
+        self.slots = slots;
     }
 
     // While nothing is decided, as device d.
     fn go_on<Q: Quorum>(&mut self, quorum: &Q, d: DeviceNumber) -> Outcome
-        ensures { (result, device_of self.new) ≡ undecided (Q.Quorum.rule quorum.now) d.number (device_of self.old) }
+        ensures { (result, self.new) ≡ undecided (Q.Quorum.rule quorum.now) d.number self.old }
     {
         let ballot = self.ballot(d);
         match self.phase {
@@ -92,7 +93,7 @@ impl Device {
 
     // What it concludes, as device d, from all that it has read.
     pub(crate) fn conclude<Q: Quorum>(&mut self, quorum: &Q, d: DeviceNumber) -> Outcome
-        ensures { (result, device_of self.new) ≡ concluded (Q.Quorum.rule quorum.now) d.number (device_of self.old) }
+        ensures { (result, self.new) ≡ concluded (Q.Quorum.rule quorum.now) d.number self.old }
     {
         match self.decision(quorum) {
             Some(value) => {

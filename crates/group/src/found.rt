@@ -1,7 +1,7 @@
 ghost use Rattle.std.specs.Prelude.{◌≡◌, length, Ok, OnOk};
 ghost use Rattle.protocol.specs.Chain.{OneOrder};
 ghost use Rattle.group.specs.Founding.{all_empty, founding, new_state, new_model, Replayed};
-ghost use Rattle.group.specs.Models.{model_of, devices_of};
+ghost use Rattle.group.specs.Models.{model_of};
 ghost use Rattle.group.specs.declared.found.NotRun.TheVariants.{Refused, NoMemory};
 
 use crate::calls::Calls;
@@ -74,7 +74,7 @@ pub fn check<A: Accounts, Q: Quorum>(accounts: &A, quorum: &Q) -> Result<(), Ref
 impl<A: Accounts, Q: Quorum> Group<A, Q> {
     // All devices, as they are now.
     pub fn devices(&self) -> DeviceTable
-        ensures { devices_of result ≡ devices_of self.now.table }
+        ensures { result ≡ self.now.table }
     {
         self.table
     }

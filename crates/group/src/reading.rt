@@ -1,7 +1,8 @@
 ghost use Rattle.std.specs.Prelude.{◌≡◌, length};
+ghost use Rattle.protocol.specs.Device.{slot_at};
 ghost use Rattle.protocol.specs.Reading.{is_own, seen_with, noted, notes_before};
 ghost use Rattle.record.specs.Entry.{entry_of};
-ghost use Rattle.group.specs.Models.{device_of, log_of, notes_from};
+ghost use Rattle.group.specs.Models.{log_of, notes_from};
 
 use crate::account_number::AccountNumber;
 use crate::device::Device;
@@ -21,9 +22,16 @@ pub(crate) fn log_length<A: Accounts>(accounts: &A, k: usize) -> usize
 }
 
 impl Device {
+    // How far it has read account k.
+    pub(crate) fn place(&self, k: AccountNumber) -> usize
+        ensures { result ≡ (slot_at self.now k.number).place }
+    {
+        self.slots[k.number].place
+    }
+
     // What it has noted about account k so far.
     pub(crate) fn notes(&self, k: AccountNumber) -> Notes
-        ensures { result ≡ notes_before (device_of self.now) k.number }
+        ensures { result ≡ notes_before self.now k.number }
     {
         let slot = &self.slots[k.number];
         Notes {
@@ -35,7 +43,7 @@ impl Device {
 
     // Whether a record is its own ACCEPT, as device d, and is accepted after what the view says.
     fn confirms(&self, d: DeviceNumber, view: View, r: &Record) -> bool
-        ensures { result ≡ is_own d.number (device_of self.now) view (entry_of r.now) }
+        ensures { result ≡ is_own d.number self.now view (entry_of r.now) }
     {
         match (self.phase, r.kind) {
             (Phase::Accepting, Kind::Accept) => {
@@ -48,7 +56,7 @@ impl Device {
 
     // The highest attempt in a record of its next version, with one record more.
     fn highest_attempt(&self, seen: u16, r: &Record) -> u16
-        ensures { result ≡ seen_with (device_of self.now) seen (entry_of r.now) }
+        ensures { result ≡ seen_with self.now seen (entry_of r.now) }
     {
         if r.version == self.known + 1 {
             seen.max(r.attempt)
@@ -59,7 +67,7 @@ impl Device {
 
     // Notes one record more, as device d.
     pub(crate) fn note(&self, d: DeviceNumber, notes: Notes, r: &Record) -> Notes
-        ensures { result ≡ noted d.number (device_of self.now) notes (entry_of r.now) }
+        ensures { result ≡ noted d.number self.now notes (entry_of r.now) }
     {
         let own = notes.own || self.confirms(d, notes.view, r);
         let seen = self.highest_attempt(notes.seen, r);
@@ -77,10 +85,10 @@ impl Device {
         end: usize,
     ) -> Notes
         requires { end ≡ length (log_of (A.Accounts.books accounts.now) k.number) }
-        ensures { result ≡ notes_from d.number (device_of self.now) (A.Accounts.books accounts.now) k.number }
+        ensures { result ≡ notes_from d.number self.now (A.Accounts.books accounts.now) k.number }
     {
         let mut notes = self.notes(k);
-        for i in self.slots[k.number].place..end {
+        for i in self.place(k)..end {
             if let Ok(r) = accounts.read(k.number, i) {
                 notes = self.note(d, notes, &r);
             }

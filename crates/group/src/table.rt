@@ -1,9 +1,8 @@
-ghost use Rattle.std.specs.Prelude.{◌≡◌, ◌<◌, false, [], replicate};
+ghost use Rattle.std.specs.Prelude.{◌≡◌, ◌<◌, false, [], replicate, slice_set};
 ghost use Rattle.record.specs.Checks.{unless};
 ghost use Rattle.protocol.specs.Device.{new_device, with_link, restarted, next_attempt, opened};
 ghost use Rattle.protocol.specs.Refusals.{device_checks};
-ghost use Rattle.std.specs.Option.{option_map};
-ghost use Rattle.group.specs.Models.{sought, device_of, devices_of, device_in, put_in, attempted_in, state_of};
+ghost use Rattle.group.specs.Models.{sought, device_in, attempted_in, state_of};
 ghost use Rattle.group.specs.Numbers.{device_number_in};
 
 use crate::account_number::AccountNumber;
@@ -12,17 +11,29 @@ use crate::device_number::DeviceNumber;
 use protocol::link::Link;
 use record::refusal::Refusal;
 use record::value::Value;
+use std::marker::Model;
 
-// Sixteen devices, told by their numbers.
+// Sixteen devices, told by their numbers: contracts see the list of them.
 #[derive(Clone, Copy)]
 pub struct DeviceTable {
     pub(crate) rows: [Device; 16],
 }
 
+impl Model for DeviceTable {
+    ghost use Rattle.std.specs.Prelude.{List};
+    ghost use Rattle.protocol.specs.Device.{Device};
+
+    ghost Value = { List Device };
+
+    ghost view = { λ table. table.rows };
+
+    ghost inverse = { λ devices. record { rows = devices } };
+}
+
 impl DeviceTable {
     // Nobody has joined.
     pub(crate) fn new() -> DeviceTable
-        ensures { devices_of result ≡ replicate 16 (new_device false) }
+        ensures { result ≡ replicate 16 (new_device false) }
     {
         DeviceTable {
             rows: [Device::new(false); 16],
@@ -31,14 +42,14 @@ impl DeviceTable {
 
     // One device's record, to read, if there is such a device.
     pub fn device(&self, device: u32) -> Option<Device>
-        ensures { option_map device_of result ≡ sought (devices_of self.now) device }
+        ensures { result ≡ sought self.now device }
     {
         self.rows.get(device as usize).copied()
     }
 
     // A copy of one device's record.
     pub(crate) fn get(&self, d: DeviceNumber) -> Device
-        ensures { device_of result ≡ device_in self.now d.number }
+        ensures { result ≡ device_in self.now d.number }
     {
         let rows: &[Device] = &self.rows;
         rows[d.number as usize]
@@ -57,29 +68,29 @@ impl DeviceTable {
 
     // Writes one device's record back.
     pub(crate) fn put(&mut self, d: DeviceNumber, device: Device)
-        ensures { devices_of self.new ≡ put_in self.old d.number (device_of device) }
+        ensures { self.new ≡ slice_set self.old d.number device }
     {
         self.rows[d.number as usize] = device;
     }
 
     pub(crate) fn set_link(&mut self, d: DeviceNumber, k: AccountNumber, link: Link)
-        ensures { devices_of self.new ≡ put_in self.old d.number (with_link (device_in self.old d.number) k.number link) }
+        ensures { self.new ≡ slice_set self.old d.number (with_link (device_in self.old d.number) k.number link) }
     {
         let device = &mut self.rows[d.number as usize];
-        device.links[k.number] = link;
+        device.set_link(k, link);
     }
 
     pub(crate) fn restart(&mut self, d: DeviceNumber)
-        ensures { devices_of self.new ≡ put_in self.old d.number (restarted (device_in self.old d.number)) }
+        ensures { self.new ≡ slice_set self.old d.number (restarted (device_in self.old d.number)) }
     {
         let device = &mut self.rows[d.number as usize];
-        device.hold(device.known, device.value);
+        device.restart();
     }
 
     // The next attempt of one device for a value.
     pub(crate) fn attempt_next(&mut self, d: DeviceNumber, value: Value) -> Result<u16, Refusal>
         requires { (device_in self.old d.number).known < 1023 }
-        ensures { (result, devices_of self.new) ≡ attempted_in self.old d.number value }
+        ensures { (result, self.new) ≡ attempted_in self.old d.number value }
     {
         let attempt = self.get(d).next_attempt()?;
         self.begin(d, attempt, value);
@@ -89,7 +100,7 @@ impl DeviceTable {
     fn begin(&mut self, d: DeviceNumber, attempt: u16, value: Value)
         requires next { attempt ≡ next_attempt (device_in self.old d.number) }
         requires version { (device_in self.old d.number).known < 1023 }
-        ensures { devices_of self.new ≡ put_in self.old d.number (opened (device_in self.old d.number) value) }
+        ensures { self.new ≡ slice_set self.old d.number (opened (device_in self.old d.number) value) }
     {
         let device = &mut self.rows[d.number as usize];
         device.begin(attempt, value);

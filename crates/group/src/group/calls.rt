@@ -94,7 +94,7 @@ impl<A: Accounts, Q: Quorum> Calls for Group<A, Q> {
             Link::RepliesLost => return Err(Refusal::RepliesLost),
         }
         let end = log_length(&self.accounts, k.number);
-        let count = end.saturating_sub(row.slots[k.number].place);
+        let count = end.saturating_sub(row.place(k));
         row.catch_up(k, end, row.note_all(d, &self.accounts, k, end));
         let outcome = row.conclude(&self.quorum, d);
         self.table.put(d, row);

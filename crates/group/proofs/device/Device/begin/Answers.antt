@@ -5,5 +5,5 @@ use Rattle.group.proofs.device.Device.begin.Goals as goal
 
 pub returns : goal.returns
 returns c =
-    let slots = mapped _ unmarked _ (λ x y q k. search (rules, k)) fresh _ c.map-self.result 7 (omega arith) c.map-self.ensures.items in
+    let slots = mapped _ unmarked _ (λ x y q k. search (rules, k)) fresh _ c.map-slots.result 7 (omega arith) c.map-slots.ensures.items in
     search (rules, slots)

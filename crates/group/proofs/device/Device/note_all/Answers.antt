@@ -4,7 +4,7 @@ use Rattle.record.specs.Entry.{Entry, no_value}
 use Rattle.record.specs.declared.kind.Kind.TheVariants.{Prepare}
 use Rattle.protocol.specs.Device.{slot_at}
 use Rattle.protocol.specs.Reading.{noted, notes_before}
-use Rattle.group.specs.Models.{device_of, log_of}
+use Rattle.group.specs.Models.{log_of}
 use Rattle.group.proofs.Logs.{read-of-log, folded-part, read-entry, read-fails}
 use Rattle.group.proofs.device.Device.note_all.Goals as goal
 use Rattle.group.proofs.device.Device.note_all.Goals.{in-Ok, in_default}
@@ -14,15 +14,15 @@ blank = record { kind = Prepare; attempt = 0; device = 0; version = 0; value = n
 
 pub loop-i-init : goal.loop-i-init
 loop-i-init g c =
-    let v = device_of c.args.self.now in
+    let v = c.args.self.now in
     let p = (slot_at v c.args.k.number).place in
     let l = log_of (g.A.Accounts.books c.args.accounts.now) c.args.k.number in
-    let z : 0 ≡ p - p = omega arith in
+    let z : 0 ≡ c.place-i.result - p = omega (arith, c.place-i.ensures) in
     c.notes-notes.ensures ∙ ap (λ n. fold (noted c.args.d.number v) (notes_before v c.args.k.number) (take n (drop p l))) z
 
 pub loop-i-preserved : goal.loop-i-preserved
 loop-i-preserved g c =
-    let v = device_of c.args.self.now in
+    let v = c.args.self.now in
     let k = c.args.k.number in
     let i = c.loop-i.i in
     let bs = g.A.Accounts.books c.args.accounts.now in
@@ -31,7 +31,7 @@ loop-i-preserved g c =
     let f = noted c.args.d.number v in
     let h : i < length l = omega (arith, c.requires, c.loop-i-test.true) in
     let r = c.read.ensures ∙ read-of-log bs k i blank h in
-    let more = folded-part f (notes_before v k) l (slot_at v k).place i blank c.loop-i.auto.i h in
+    let more = folded-part f (notes_before v k) l (slot_at v k).place i blank (omega (arith, c.place-i.ensures, c.loop-i.auto.i)) h in
     elim c.match-read.branch [
       | in-Ok w ↦
           let q = read-entry w.in-Ok.r e (w.in-Ok.ensures ∙ read-of-log bs k i blank h) in
@@ -41,7 +41,7 @@ loop-i-preserved g c =
 
 pub returns : goal.returns
 returns g c =
-    let v = device_of c.args.self.now in
+    let v = c.args.self.now in
     let p = (slot_at v c.args.k.number).place in
     let bs = g.A.Accounts.books c.args.accounts.now in
     let l = log_of bs c.args.k.number in
