@@ -5,7 +5,7 @@ use crate::accounts::Accounts;
 use record::record::Record;
 use record::refusal::Refusal;
 
-// One account, and those after it.
+// One account, and those after it. Each call goes one step on by itself: a function that picks the account would have to lend either type.
 #[derive(Drop)]
 pub struct Pair<'a, A, B> {
     pub first: &'a mut A,

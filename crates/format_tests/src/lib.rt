@@ -90,7 +90,7 @@ fn numbers_are_refused_in_order(rt: HostRuntime) {
         ),
     ];
     for (numbers, refusal) in wrong {
-        assert_eq!(rt; Record::from_numbers(numbers), Err(refusal));
+        assert_eq!(rt; Record::try_from(numbers), Err(refusal));
     }
 }
 
@@ -105,7 +105,7 @@ fn a_record_survives_its_bytes(rt: HostRuntime) -> Result<(), Fail> {
         setup: u32::MAX as u64,
     };
     for numbers in [PREPARE, last] {
-        let record = Record::from_numbers(numbers)?;
+        let record = Record::try_from(numbers)?;
         assert_eq!(rt; Record::from_bytes(&record.to_bytes()), Ok(record));
     }
     assert_eq!(rt; Record::from_bytes(&[0x40; 15]), Err(Refusal::NotWhole));
@@ -115,7 +115,7 @@ fn a_record_survives_its_bytes(rt: HostRuntime) -> Result<(), Fail> {
 
 #[test]
 fn an_area_is_refused_in_order(rt: HostRuntime) -> Result<(), Fail> {
-    let prepare = Record::from_numbers(PREPARE)?.to_bytes();
+    let prepare = Record::try_from(PREPARE)?.to_bytes();
     let bad = [0u8; 32];
     assert_eq!(rt;
         inspect(&bad[0..31], 1024),
@@ -130,7 +130,7 @@ fn an_area_is_refused_in_order(rt: HostRuntime) -> Result<(), Fail> {
     let silent = View {
         promised: 0,
         accepted: 0,
-        value: Value { root: 0, setup: 0 },
+        value: Value::NONE,
     };
     assert_eq!(rt; inspect(&[], 1023), Ok(silent));
     assert_eq!(rt;

@@ -5,6 +5,7 @@ use record::value::Value;
 use std::marker::Model;
 
 // What one device holds: contracts see it as the protocol's device.
+// The rules of a device name these fields one by one, and say what each is while another marks that nothing is open or joined.
 #[derive(Clone, Copy)]
 pub struct Device {
     pub joined: bool,

@@ -88,6 +88,7 @@ impl Device {
         ensures { result ≡ notes_from d.number self.now (A.Accounts.books accounts.now) k.number }
     {
         let mut notes = self.notes(k);
+        // records are told by places, and a place before the end has one
         for i in self.place(k)..end {
             if let Ok(r) = accounts.read(k.number, i) {
                 notes = self.note(d, notes, &r);

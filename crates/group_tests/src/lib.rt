@@ -119,52 +119,24 @@ fn alone(rt: HostRuntime, weights: &[u8]) -> Result<Vec<Answer>, NotRun> {
 // An account with more than half of the weight decides by itself, one with half does not.
 #[test]
 fn a_heavy_account(rt: HostRuntime) -> Result<(), Fail> {
-    match alone(rt, &[3, 1, 1]) {
-        Ok(answers) => {
-            assert_eq!(rt;
-                answers.as_slice().last(),
-                Some(&Answer::Taken(1, Outcome::Decided))
-            );
-            Ok(())
-        },
-        Err(_) => {
-            assert!(rt; false);
-            Ok(())
-        },
-    }
+    assert_eq!(rt;
+        alone(rt, &[3, 1, 1])?.as_slice().last(),
+        Some(&Answer::Taken(1, Outcome::Decided))
+    );
+    Ok(())
 }
 
 #[test]
 fn half_of_the_weight(rt: HostRuntime) -> Result<(), Fail> {
-    match alone(rt, &[2, 1, 1]) {
-        Ok(answers) => {
-            assert_eq!(rt;
-                answers.as_slice().last(),
-                Some(&Answer::Taken(0, Outcome::Waiting))
-            );
-            Ok(())
-        },
-        Err(_) => {
-            assert!(rt; false);
-            Ok(())
-        },
-    }
+    assert_eq!(rt;
+        alone(rt, &[2, 1, 1])?.as_slice().last(),
+        Some(&Answer::Taken(0, Outcome::Waiting))
+    );
+    Ok(())
 }
 
 #[test]
-fn weights_for_two_accounts(rt: HostRuntime) -> Result<(), Fail> {
-    match alone(rt, &[1, 1]) {
-        Ok(_) => {
-            assert!(rt; false);
-            Ok(())
-        },
-        Err(NotRun::NoMemory(_)) => {
-            assert!(rt; false);
-            Ok(())
-        },
-        Err(NotRun::Refused(refusal)) => {
-            assert_eq!(rt; refusal, Refusal::QuorumOfOtherSize);
-            Ok(())
-        },
-    }
+fn weights_for_two_accounts(rt: HostRuntime) {
+    let refused = NotRun::Refused(Refusal::QuorumOfOtherSize);
+    assert_eq!(rt; alone(rt, &[1, 1]).err(), Some(refused));
 }

@@ -7,6 +7,7 @@ use record::record::Record;
 use record::value::Value;
 
 // What was read about one version: the highest ballot promised, and the highest accepted one with its value.
+// No ballot is 0, and not an Option: so the rules of a log count and report it.
 #[derive(Clone, Copy, Debug, PartialEq, Eq)]
 pub struct View {
     pub promised: u32,

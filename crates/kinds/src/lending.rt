@@ -19,7 +19,8 @@ pub fn store(area: &mut [u8], r: &Record) -> Result<usize, Refusal>
     log.append(r)
 }
 
-// The same with a versioned file, of which the lender knows every row.
+// The same with a versioned file, of which the lender knows every row. One function for both would need a trait of founding,
+// and could say of the memory only what that trait says: not each row.
 pub fn file(rows: &mut [Row], r: &Record) -> Result<usize, Refusal>
     ensures answer { result ≡ (filed rows.old (entry_of r.now)).0 }
     ensures rows { rows.new ≡ (filed rows.old (entry_of r.now)).1 }

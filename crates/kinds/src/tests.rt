@@ -35,7 +35,7 @@ fn accept() -> Numbers {
 // Only the record's own place changes.
 #[test]
 fn bytes(rt: HostRuntime) -> Result<(), Fail> {
-    let r = Record::from_numbers(accept())?;
+    let r = Record::try_from(accept())?;
     let mut area = [255; 32];
     assert_eq!(rt; store(&mut area, &r), Ok(1));
     let (written, rest) = area.split_at(16);
@@ -46,8 +46,8 @@ fn bytes(rt: HostRuntime) -> Result<(), Fail> {
 
 #[test]
 fn rows(rt: HostRuntime) -> Result<(), Fail> {
-    let accept = Record::from_numbers(accept())?;
-    let prepare = Record::from_numbers(Numbers {
+    let accept = Record::try_from(accept())?;
+    let prepare = Record::try_from(Numbers {
         kind: 1,
         attempt: 1,
         device: 1,

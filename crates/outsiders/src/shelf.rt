@@ -4,7 +4,7 @@ use record::record::Record;
 
 mod calls;
 
-// Up to four records by value, with no memory but its own.
+// Up to four records by value, with no memory but its own, and so with a count beside an array.
 #[derive(Clone, Copy)]
 pub struct Shelf {
     rows: [Record; 4],

@@ -2,7 +2,7 @@ use crate::outcome::Outcome;
 use crate::version::Version;
 use record::refusal::Refusal;
 
-// What a call is answered.
+// What a call is answered. One flat enum and no Result of one: a promise then says of a call just `Attempt a` or `Taken n o`.
 #[derive(Clone, Copy, Debug, PartialEq, Eq)]
 pub enum Answer {
     Refused(Refusal),

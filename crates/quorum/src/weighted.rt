@@ -7,6 +7,7 @@ use crate::quorum::Quorum;
 use record::refusal::Refusal;
 
 // More than half of the weight of all accounts is a quorum.
+// A fixed array with its length beside it: a rule is made without memory, and is copied.
 #[derive(Clone, Copy)]
 pub struct Weighted {
     n: usize,

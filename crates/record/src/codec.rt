@@ -54,6 +54,7 @@ fn value_in(bytes: &[u8]) -> Option<Value>
 
 impl Record {
     // The record that sixteen bytes stand for, or why they stand for none.
+    // This pair is named as std names such a pair at a number, and each says a fact that no `TryFrom` would: that the other undoes it.
     pub fn from_bytes(bytes: &[u8]) -> Result<Record, Refusal>
         ensures value { entry_in result ≡ decoded bytes.now }
         ensures back { IfOk result (λ x. encoded (entry_of x) ≡ bytes.now) }
@@ -74,22 +75,6 @@ impl Record {
             setup: value.setup as u64,
         };
         meaningful(Kind::try_from(n.kind)?, n)
-    }
-
-    // The record of these numbers, or why there is none.
-    pub fn from_numbers(n: Numbers) -> Result<Record, Refusal>
-        ensures { entry_in result ≡ from_numbers n }
-    {
-        let kind = Kind::try_from(n.kind)?;
-        if n.attempt > 0xffff
-            || n.device > 0xf
-            || n.version > 0x3ff
-            || n.root > u64::MAX as u128
-            || n.setup > u32::MAX as u64
-        {
-            return Err(Refusal::TooWide);
-        }
-        meaningful(kind, n)
     }
 
     // Kind, attempt, device and version in 32 bits.
@@ -119,5 +104,25 @@ impl Record {
         ensures { result ≡ ballot (entry_of self.now) }
     {
         self.attempt as u32 * 16 + self.device as u32
+    }
+}
+
+// The record of these numbers, or why there is none.
+impl TryFrom<Numbers> for Record {
+    type Error = Refusal;
+
+    ghost try_from_gives = { λ n r. entry_in r ≡ from_numbers n };
+
+    fn try_from(n: Numbers) -> Result<Record, Refusal> {
+        let kind = Kind::try_from(n.kind)?;
+        if n.attempt > 0xffff
+            || n.device > 0xf
+            || n.version > 0x3ff
+            || n.root > u64::MAX as u128
+            || n.setup > u32::MAX as u64
+        {
+            return Err(Refusal::TooWide);
+        }
+        meaningful(kind, n)
     }
 }

@@ -5,6 +5,7 @@ ghost use Rattle.storage.specs.Areas.{slot};
 mod calls;
 
 // Records side by side in a lent area of bytes, sixteen to a record. What lies past the last record is never written.
+// How many are used stands beside the area, since that is lent and no memory is asked for.
 #[derive(Drop)]
 pub struct ByteLog<'a> {
     area: &'a mut [u8],

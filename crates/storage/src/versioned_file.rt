@@ -7,7 +7,7 @@ use super::row::Row;
 mod calls;
 
 // Rows in a lent slice, each with the place of the one before it. A reader goes back from the newest.
-// What lies past the last record is never written.
+// What lies past the last record is never written. How many are used stands beside the rows, since those are lent.
 #[derive(Drop)]
 pub struct VersionedFile<'a> {
     rows: &'a mut [Row],

@@ -19,7 +19,7 @@ impl Shelf {
             attempt: 1,
             device: 0,
             version: 1,
-            value: Value { root: 0, setup: 0 },
+            value: Value::NONE,
         };
         Shelf {
             rows: [blank; 4],

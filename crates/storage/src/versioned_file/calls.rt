@@ -8,6 +8,7 @@ ghost use Rattle.storage.specs.Kept.{file-keeps};
 use super::VersionedFile;
 use crate::row::Row;
 use account::account::Account;
+use record::numbers::Numbers;
 use record::record::Record;
 use record::refusal::Refusal;
 
@@ -60,11 +61,12 @@ impl Account for VersionedFile<'_> {
         if place >= self.used {
             return Err(Refusal::PastEnd);
         }
+        // a reader of such a file knows the newest row and goes back by the places in the rows
         let mut at = self.used - 1;
         while at > place {
             at = self.rows[at].before as usize;
         }
-        Record::from_numbers(self.rows[at].into())
+        Numbers::from(self.rows[at]).try_into()
     }
 
     fn length(&self) -> usize {

@@ -16,8 +16,8 @@ returns c =
     let k = c.args.place in
     let h : k < s.used = omega arith in
     let e : c.loop-at.at ≡ k = omega arith in
-    c.from_numbers.ensures
-    ∙ ap from_numbers c.into.ensures
+    c.try_into.ensures
+    ∙ ap from_numbers c.from.ensures
     ∙ ap (λ i. from_numbers (numbers_of (row_at s.rows.now i))) e
     ∙ numbers-ok (numbers_of (row_at s.rows.now k)) (s.sound k h)
     ∙ sym (placed-read _ s.used k h)

@@ -1,6 +1,6 @@
 use Rattle.std.proofs.lemmas.Result.{err_from_is_err_and}
 use Rattle.record.proofs.Decoding.{kind-missing}
-use Rattle.record.proofs.record.Record.from_numbers.Goals as goal
+use Rattle.record.proofs.codec.RecordTryFromNumbers.try_from.Goals as goal
 
 pub returns-in_err-kind : goal.returns-in_err-kind
 returns-in_err-kind c =
