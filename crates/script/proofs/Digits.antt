@@ -1,19 +1,29 @@
 -- Digits, read one by one. Assumes nothing.
-use Rattle.std.proofs.Common.{◌≡◌, ℕ, ◌+◌, ◌-◌, ◌*◌, ◌^◌, ◌<◌, ◌≤◌, Bool, true, false, cond, not, ◌&&◌, ltb, List, [], ◌∷◌, length, get_or, drop, Ok, Err, sym, refl, ap, ◌∙◌, arith}
-use Rattle.std.proofs.lemmas.List.{at_drop_more}
-use Rattle.std.proofs.lemmas.Bool.Decides.{nat_tests}
+use Rattle.std.proofs.Common.{◌≡◌, ℕ, ◌+◌, ◌-◌, ◌*◌, ◌^◌, ◌<◌, ◌≤◌, true, false, ◌&&◌, List, [], ◌∷◌, length, get_or, drop, Ok, Err, Result, sym, ap, ◌∙◌, arith}
+use Rattle.std.proofs.lemmas.Bool.{and_parts, and_from, cond-true, cond-false, lt-ltb, ltb-true, not_from_true, not_from_false, false_from_ne_true}
+use Rattle.std.proofs.lemmas.List.{at_drop_more, at_drop_all}
+use Rattle.std.specs.Result.{OkIff}
+use Rattle.std.specs.declared.num.TryFromIntError.{TryFromIntError}
 use Rattle.record.specs.declared.refusal.Refusal.{Refusal}
-use Rattle.record.specs.declared.refusal.Refusal.TheVariants.{BadNumber}
-use Rattle.script.specs.Numerals.{is_digit, is_digits, read_on}
+use Rattle.script.specs.Numerals.{is_digit, is_digits, is_numeral, read_on, value_of, fits, number_of}
+use Rattle.script.specs.Reading.{Reads}
 
 module _ (f : List ℕ) (i : ℕ) where
-  pub digits_more : (b : Bool) → b ≡ is_digit (get_or f i 0) → i < length f → (b && is_digits (drop (i + 1) f)) ≡ is_digits (drop i f)
+  pub digits-more : i < length f → is_digits (drop i f) ≡ (is_digit (get_or f i 0) && is_digits (drop (i + 1) f))
   unfolding is_digits
-  digits_more b e h = ap (λ t. t && is_digits (drop (i + 1) f)) e ∙ sym (at_drop_more is_digits f i 0 h)
+  digits-more h = at_drop_more is_digits f i 0 h
 
-  pub read_more : (n : ℕ) → i < length f → read_on n (drop i f) ≡ read_on (n * 10 + (get_or f i 0 - 48)) (drop (i + 1) f)
+  pub read-more : (n : ℕ) → i < length f → read_on n (drop i f) ≡ read_on (n * 10 + (get_or f i 0 - 48)) (drop (i + 1) f)
   unfolding read_on
-  read_more n h = at_drop_more (read_on n) f i 0 h
+  read-more n h = at_drop_more (read_on n) f i 0 h
+
+  pub digits-end : length f ≤ i → is_digits (drop i f) ≡ true
+  unfolding is_digits
+  digits-end h = at_drop_all is_digits f i h
+
+  pub read-end : (n : ℕ) → length f ≤ i → read_on n (drop i f) ≡ n
+  unfolding read_on
+  read-end n h = at_drop_all (read_on n) f i h
 
 -- more digits never make a number smaller
 pub read-grows : (n : ℕ) (cs : List ℕ) → n ≤ read_on n cs
@@ -21,8 +31,17 @@ unfolding read_on
 read-grows n [] = omega arith
 read-grows n (c ∷ cs) = omega (arith, read-grows (n * 10 + (c - 48)) cs)
 
--- what does not fit 64 bits does not fit 32
-pub too_wide : (b : Bool) (n : ℕ) (e : Refusal) → Err e ≡ cond (not (b && ltb n (2 ^ 64))) (Err BadNumber) (Ok n)
-    → Err BadNumber ≡ cond (not (b && ltb n (2 ^ 32))) (Err BadNumber) (Ok n)
-too_wide false n e h = refl
-too_wide true n e h = grind (arith, nat_tests)
+pub ruleset digits = (digits-more, digits-end, read-more, read-end, read-grows)
+
+-- a field is read as its number, at a type of so many bits
+pub number_is : (bits : ℕ) (f : List ℕ) (r : Result ℕ Refusal) → 2 ^ bits ≤ 2 ^ 64
+    → Reads {E = TryFromIntError} (λ n x. OkIff x (n < 2 ^ bits) n) f r → r ≡ number_of bits f
+number_is bits f (Ok n) small h =
+    let fit : fits bits f ≡ true = and_from (is_numeral f) _ (and_parts (is_numeral f) _ h.0).0 (lt-ltb (value_of f) (2 ^ bits) h.1.0) in
+    ap (λ x. Ok x) h.1.1 ∙ sym (cond-false _ _ _ (not_from_true _ fit))
+number_is bits f (Err e) small h =
+    let unfit : fits bits f ≡ false = false_from_ne_true _ (λ fit.
+    let both = and_parts (is_numeral f) _ fit in
+    let less : value_of f < 2 ^ bits = ltb-true _ _ both.1 in
+    (h.1 (and_from (is_numeral f) _ both.0 (lt-ltb (value_of f) (2 ^ 64) (omega arith)))).1 less) in
+    ap (λ x. Err x) h.0 ∙ sym (cond-true _ _ _ (not_from_false _ unfit))

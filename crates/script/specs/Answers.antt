@@ -1,5 +1,5 @@
 -- Answers as lines of text.
-use Rattle.std.specs.Prelude.{ℕ, List, [], ◌∷◌, ◌++◌, codes, decimal}
+use Rattle.std.specs.Prelude.{◌≡◌, ℕ, List, [], ◌∷◌, ◌++◌, codes, decimal, String, string_bytes}
 use Rattle.record.specs.Codes.{code}
 use Rattle.protocol.specs.Codes.{outcome_number}
 use Rattle.protocol.specs.declared.answer.Answer.{Answer}
@@ -18,3 +18,7 @@ answer_line (Attempt a) = codes "0" ++ spaced (a ∷ [])
 answer_line (Length n) = codes "0" ++ spaced (n ∷ [])
 answer_line (Taken n o) = codes "0" ++ spaced (n ∷ outcome_number o ∷ [])
 answer_line (Holds v) = codes "0" ++ spaced (v.number ∷ v.value.root ∷ v.value.setup ∷ [])
+
+-- the text has grown by these bytes at its end
+abbrev pub Gains : {A : Type 0} → String A → String A → List ℕ → Type 0
+Gains old new bytes = string_bytes new ≡ string_bytes old ++ bytes

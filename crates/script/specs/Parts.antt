@@ -1,18 +1,13 @@
 -- How an input is cut into lines, and a line into fields.
 use Rattle.std.specs.Prelude.{◌≡◌, ℕ, suc, ◌+◌, ◌-◌, Bool, true, false, cond, List, [], ◌∷◌, length, ◌==◌}
-use Rattle.std.specs.List.{between}
+use Rattle.std.specs.List.{between, onto_first}
 use Rattle.script.specs.declared.token.Token.{Token}
 use Rattle.script.specs.declared.token.Token.TheVariants.{Word, Number}
-
--- one more byte in front of the first piece
-abbrev pub put_first : ℕ → List (List ℕ) → List (List ℕ)
-put_first c [] = (c ∷ []) ∷ []
-put_first c (p ∷ ps) = (c ∷ p) ∷ ps
 
 -- the pieces between the bytes b; last is what stands after the end
 unfoldable pub parted : ℕ → List (List ℕ) → List ℕ → List (List ℕ)
 parted b last [] = last
-parted b last (c ∷ cs) = cond (c == b) ([] ∷ parted b last cs) (put_first c (parted b last cs))
+parted b last (c ∷ cs) = cond (c == b) ([] ∷ parted b last cs) (onto_first c (parted b last cs))
 
 -- each line is ended by a line feed or the end of the input: an empty rest is no line
 abbrev pub lines_of : List ℕ → List (List ℕ)

@@ -1,5 +1,5 @@
-ghost use Rattle.std.specs.Prelude.{◌≡◌, ◌++◌, IfOk, string_bytes, OnOk};
-ghost use Rattle.script.specs.Answers.{answer_line};
+ghost use Rattle.std.specs.Prelude.{◌≡◌, IfOk, string_bytes, OnOk};
+ghost use Rattle.script.specs.Answers.{answer_line, Gains};
 ghost use Rattle.script.specs.Script.{shown};
 
 use protocol::answer::Answer;
@@ -8,51 +8,38 @@ use protocol::version::Version;
 use record::refusal::Refusal;
 use std::alloc::{AllocError, Global};
 
-fn write_version(out: &mut String, version: Version) -> Result<(), AllocError>
-    ensures { OnOk result (string_bytes out.new ≡ string_bytes out.old ++ answer_line (Answer.Holds version)) }
-{
-    let number = version.number;
-    let root = version.value.root;
-    let setup = version.value.setup;
-    writeln!(out, "0 {number} {root} {setup}")
-}
-
 // One answer, as a line.
 fn write_answer(out: &mut String, answer: Answer) -> Result<(), AllocError>
-    ensures { OnOk result (string_bytes out.new ≡ string_bytes out.old ++ answer_line answer) }
+    ensures { OnOk result (Gains out.old out.new (answer_line answer)) }
 {
     match answer {
-        Answer::Refused(refusal) => {
-            let number = u8::from(refusal);
-            writeln!(out, "{number}")
-        }
+        Answer::Refused(refusal) => writeln!(out, "{}", u8::from(refusal)),
         Answer::Done => writeln!(out, "0"),
         Answer::Attempt(attempt) => writeln!(out, "0 {attempt}"),
         Answer::Length(length) => writeln!(out, "0 {length}"),
-        Answer::Taken(count, outcome) => {
-            let number = u8::from(outcome);
-            writeln!(out, "0 {count} {number}")
+        Answer::Taken(count, outcome) => writeln!(out, "0 {count} {}", u8::from(outcome)),
+        Answer::Holds(Version { number, value }) => {
+            writeln!(out, "0 {number} {} {}", value.root, value.setup)
         }
-        Answer::Holds(version) => write_version(out, version),
     }
 }
 
 // The refusals of lines and the answers to calls, each on a line, in the order of the script.
+#[tactic(auto, unfolding(crate::specs::Script::shown))]
 fn write_lines(
     out: &mut String,
     lines: &[Result<Call, Refusal>],
     answers: &[Answer],
 ) -> Result<(), AllocError>
-    ensures { OnOk result (string_bytes out.new ≡ string_bytes out.old ++ shown lines.now answers.now) }
+    ensures { OnOk result (Gains out.old out.new (shown lines.now answers.now)) }
 {
-    let mut next = 0;
+    let mut left = answers.iter();
     for line in lines {
         match line {
             Err(refusal) => write_answer(out, Answer::Refused(*refusal))?,
             Ok(_) => {
-                if next < answers.len() {
-                    write_answer(out, answers[next])?;
-                    next += 1;
+                if let Some(answer) = left.next() {
+                    write_answer(out, *answer)?;
                 }
             }
         }

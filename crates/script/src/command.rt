@@ -1,11 +1,12 @@
 ghost use Rattle.std.specs.Prelude.{◌≡◌, [], ◌∷◌};
 ghost use Rattle.record.specs.Checks.{unless};
-ghost use Rattle.protocol.specs.declared.call.Call.TheVariants.{SetLink, Propose};
-ghost use Rattle.script.specs.Commands.{letter_of, field_at, number_at, number_checks, parsed_line};
-ghost use Rattle.script.specs.Numerals.{number_of};
+ghost use Rattle.protocol.specs.declared.call.Call.TheVariants.{Propose};
+ghost use Rattle.script.specs.Commands.{field_at, number_at, number_checks, parsed_line};
+ghost use Rattle.script.specs.Reading.{Reads, numbers_of};
 
 use crate::cut::{count_numbers, token};
-use crate::numeral::{read_narrow, read_wide};
+use crate::numeral::read;
+use crate::token::Token;
 use protocol::call::Call;
 use record::refusal::Refusal;
 use record::value::Value;
@@ -14,114 +15,93 @@ use record::value::Value;
 fn field(line: &[u8], index: usize) -> &[u8]
     ensures { result.now ≡ field_at line.now index }
 {
-    match token(line, index) {
-        Some(token) => token.bytes(),
-        None => &line[0..0],
-    }
+    token(line, index).map_or(&[], Token::bytes)
 }
 
-// The letter of a command, if the first field is one letter.
-fn letter(line: &[u8]) -> Option<u8>
-    ensures { result ≡ letter_of (field_at line.now 0) }
+// A number of a line, counted from 1, of any type.
+fn number<T: TryFrom<u64>>(line: &[u8], index: usize) -> Result<T, Refusal>
+where
+    T::Error: Drop,
+    ensures { Reads T.try_from_gives (field_at line.now index) result }
 {
-    match field(line, 0) {
-        [letter] => Some(*letter),
-        _ => None,
-    }
+    read(field(line, index))
 }
 
-// A number of a line, counted from 1, of 32 bits.
-fn narrow(line: &[u8], index: usize) -> Result<u32, Refusal>
-    ensures { result ≡ number_of 32 (field_at line.now index) }
+// The numbers of a line, where there are N, each of 32 bits.
+#[tactic(auto, using(crate::proofs::Digits::number_is))]
+fn numbers<const N: usize>(line: &[u8]) -> Result<[u32; N], Refusal>
+    ensures { result ≡ numbers_of N line.now }
 {
-    read_narrow(field(line, index))
-}
-
-// A number of a line, counted from 1, of 64 bits.
-fn wide(line: &[u8], index: usize) -> Result<u64, Refusal>
-    ensures { result ≡ number_of 64 (field_at line.now index) }
-{
-    read_wide(field(line, index))
-}
-
-// The only number of a line.
-fn one(line: &[u8]) -> Result<u32, Refusal>
-    ensures { result ≡ unless (number_checks (32 ∷ []) line.now) (number_at line.now 1) }
-{
-    if count_numbers(line) != 1 {
+    if count_numbers(line) != N {
         return Err(Refusal::WrongCount);
     }
-    narrow(line, 1)
-}
-
-// The two numbers of a line.
-fn two(line: &[u8]) -> Result<(u32, u32), Refusal>
-    ensures { result ≡ unless (number_checks (32 ∷ 32 ∷ []) line.now) (number_at line.now 1, number_at line.now 2) }
-{
-    if count_numbers(line) != 2 {
-        return Err(Refusal::WrongCount);
+    // tried: `array::try_from_fn`, which asks in a `requires` that N numbers fit in memory
+    let mut numbers = [0; N];
+    for k in 0..N {
+        numbers[k] = number(line, k + 1)?;
     }
-    let first = narrow(line, 1)?;
-    let second = narrow(line, 2)?;
-    Ok((first, second))
+    Ok(numbers)
 }
 
-fn set_link(line: &[u8]) -> Result<Call, Refusal>
-    ensures { result ≡ unless (number_checks (32 ∷ 32 ∷ 32 ∷ []) line.now) (SetLink (number_at line.now 1) (number_at line.now 2) (number_at line.now 3)) }
-{
-    if count_numbers(line) != 3 {
-        return Err(Refusal::WrongCount);
-    }
-    let device = narrow(line, 1)?;
-    let account = narrow(line, 2)?;
-    let state = narrow(line, 3)?;
-    Ok(Call::SetLink {
-        device,
-        account,
-        state,
-    })
-}
-
+// One of its numbers has 64 bits: an array of four as wide would leave three to be narrowed.
+#[tactic(auto, using(crate::proofs::Digits::number_is))]
 fn propose(line: &[u8]) -> Result<Call, Refusal>
-    ensures { result ≡ unless (number_checks (32 ∷ 32 ∷ 64 ∷ 32 ∷ []) line.now) (Propose (number_at line.now 1) (number_at line.now 2) (record { root = number_at line.now 3; setup = number_at line.now 4 })) }
+    ensures { result ≡ unless (number_checks (32 ∷ 32 ∷ 64 ∷ 32 ∷ []) line.now)
+        (Propose (number_at line.now 1) (number_at line.now 2)
+        (record { root = number_at line.now 3; setup = number_at line.now 4 })) }
 {
     if count_numbers(line) != 4 {
         return Err(Refusal::WrongCount);
     }
-    let device = narrow(line, 1)?;
-    let base = narrow(line, 2)?;
-    let root = wide(line, 3)?;
-    let setup = narrow(line, 4)?;
-    let value = Value { root, setup };
     Ok(Call::Propose {
-        device,
-        base,
-        value,
+        device: number(line, 1)?,
+        base: number(line, 2)?,
+        value: Value {
+            root: number(line, 3)?,
+            setup: number(line, 4)?,
+        },
     })
 }
 
 // The call that a line stands for.
+#[tactic(auto, using(crate::proofs::Refusing::refused_by), unfolding(crate::specs::Commands::parsed_line))]
 pub fn parse_line(line: &[u8]) -> Result<Call, Refusal>
     ensures { result ≡ parsed_line line.now }
 {
-    let Some(letter) = letter(line) else {
-        return Err(Refusal::UnknownCommand);
-    };
-    match letter {
-        b'J' => Ok(Call::Join { device: one(line)? }),
-        b'L' => set_link(line),
-        b'P' => propose(line),
-        b'S' => {
-            let (device, account) = two(line)?;
+    match field(line, 0) {
+        [b'J'] => {
+            let [device] = numbers::<1>(line)?;
+            Ok(Call::Join { device })
+        }
+        [b'L'] => {
+            let [device, account, state] = numbers::<3>(line)?;
+            Ok(Call::SetLink {
+                device,
+                account,
+                state,
+            })
+        }
+        [b'P'] => propose(line),
+        [b'S'] => {
+            let [device, account] = numbers::<2>(line)?;
             Ok(Call::Send { device, account })
         }
-        b'R' => {
-            let (device, account) = two(line)?;
+        [b'R'] => {
+            let [device, account] = numbers::<2>(line)?;
             Ok(Call::Read { device, account })
         }
-        b'A' => Ok(Call::Again { device: one(line)? }),
-        b'X' => Ok(Call::Restart { device: one(line)? }),
-        b'K' => Ok(Call::Known { device: one(line)? }),
+        [b'A'] => {
+            let [device] = numbers::<1>(line)?;
+            Ok(Call::Again { device })
+        }
+        [b'X'] => {
+            let [device] = numbers::<1>(line)?;
+            Ok(Call::Restart { device })
+        }
+        [b'K'] => {
+            let [device] = numbers::<1>(line)?;
+            Ok(Call::Known { device })
+        }
         _ => Err(Refusal::UnknownCommand),
     }
 }

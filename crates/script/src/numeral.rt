@@ -1,75 +1,47 @@
-ghost use Rattle.std.specs.Prelude.{◌≡◌, ◌^◌, true, if◌then◌else◌, Some, None, nat_lt};
-ghost use Rattle.script.specs.Numerals.{is_digits, is_numeral, value_of, number_of};
+ghost use Rattle.std.specs.Prelude.{◌≡◌, ◌^◌, ◌&&◌, if◌then◌else◌, Some, None, nat_lt};
+ghost use Rattle.script.specs.Numerals.{is_digits, value_of};
+ghost use Rattle.script.specs.Reading.{is_plain, Reads};
 
 use record::refusal::Refusal;
 
 const MOST_DIGITS: usize = 20;
 
-fn all_digits(field: &[u8]) -> bool
-    ensures { result ≡ is_digits field.now }
+// Whether a field has 1 to 20 bytes, and no zero in front of more.
+fn is_plain(field: &[u8]) -> bool
+    ensures { result ≡ is_plain field.now }
 {
-    for b in field {
-        if !b.is_ascii_digit() {
-            return false;
-        }
+    match field {
+        [] | [b'0', _, ..] => false,
+        _ => field.len() <= MOST_DIGITS,
     }
-    true
 }
 
-// Whether a field is written as a number, whatever its size.
-fn is_numeral(field: &[u8]) -> bool
-    ensures { result ≡ is_numeral field.now }
-{
-    if field.len() == 0 || field.len() > MOST_DIGITS {
-        return false;
-    }
-    if field[0] == b'0' && field.len() > 1 {
-        return false;
-    }
-    all_digits(field)
-}
-
-// What the digits stand for, if it fits 64 bits.
-fn value(digits: &[u8]) -> Option<u64>
-    requires { is_digits digits.now ≡ true }
-    ensures { result ≡ (if nat_lt (value_of digits.now) (2 ^ 64) then Some (value_of digits.now) else None) }
+// What a field stands for, if it is all digits and fits 64 bits.
+// tried: `from_utf8` and `parse`, with which 60 KB of mixed commands take 13% more instructions
+#[tactic(auto, using(crate::proofs::Digits::digits))]
+fn value(field: &[u8]) -> Option<u64>
+    ensures { result ≡ (if is_digits field.now && nat_lt (value_of field.now) (2 ^ 64)
+        then Some (value_of field.now) else None) }
 {
     let mut value: u64 = 0;
-    for b in digits {
-        let digit = (*b - b'0') as u64;
-        if value > (u64::MAX - digit) / 10 {
+    for b in field {
+        if !b.is_ascii_digit() {
             return None;
         }
-        value = value * 10 + digit;
+        value = value.checked_mul(10)?.checked_add(u64::from(*b - b'0'))?;
     }
     Some(value)
 }
 
-// A number of 64 bits, from the bytes that write it.
-pub(crate) fn read_wide(field: &[u8]) -> Result<u64, Refusal>
-    ensures { result ≡ number_of 64 field.now }
+// A number of any type, from the bytes that write it.
+pub(crate) fn read<T: TryFrom<u64>>(field: &[u8]) -> Result<T, Refusal>
+where
+    T::Error: Drop,
+    ensures { Reads T.try_from_gives field.now result }
 {
-    if !is_numeral(field) {
+    if !is_plain(field) {
         return Err(Refusal::BadNumber);
     }
-    match value(field) {
-        Some(number) => Ok(number),
-        None => Err(Refusal::BadNumber),
-    }
-}
-
-// A number of 32 bits, from the bytes that write it.
-pub(crate) fn read_narrow(field: &[u8]) -> Result<u32, Refusal>
-    ensures { result ≡ number_of 32 field.now }
-{
-    match read_wide(field) {
-        Ok(number) => {
-            if number <= u32::MAX as u64 {
-                Ok(number as u32)
-            } else {
-                Err(Refusal::BadNumber)
-            }
-        }
-        Err(_) => Err(Refusal::BadNumber),
-    }
+    let value = value(field).ok_or(Refusal::BadNumber)?;
+    T::try_from(value).map_err(|_| Refusal::BadNumber)
 }

@@ -10,10 +10,12 @@ use bench::runs::run;
 use group::found::NotRun;
 use std::alloc::{AllocError, Global};
 
-// What a script prints, played on three new accounts counted by majority. The proposals of its calls have one order.
+// What a script prints, played on three new accounts counted by majority.
+// The proposals of its calls have one order.
 pub fn respond(heap: Global, input: &[u8]) -> Result<String, AllocError>
     ensures text { IfOk result (λ t. string_bytes t ≡ printed input.now) }
-    ensures order { OnOk result (OneOrder (majority 3) three_accounts (calls_of (parsed input.now))) }
+    ensures order { OnOk result
+        (OneOrder (majority 3) three_accounts (calls_of (parsed input.now))) }
 {
     let lines = parse(heap, input)?;
     let calls = calls(heap, lines.as_slice())?;

@@ -13,8 +13,7 @@ impl<'a> Token<'a> {
         ensures { result.now ≡ (part_of self.entry).bytes }
     {
         match self {
-            Token::Word { bytes, .. } => bytes,
-            Token::Number { bytes, .. } => bytes,
+            Token::Word { bytes, .. } | Token::Number { bytes, .. } => bytes,
         }
     }
 }

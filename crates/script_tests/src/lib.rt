@@ -48,9 +48,9 @@ fn two_devices_and_one_value(rt: HostRuntime) -> Result<(), Fail> {
     let lines = parse(rt.alloc(), input)?;
     assert_eq!(rt; calls(rt.alloc(), lines.as_slice())?.len(), 15);
     let text = show(rt.alloc(), lines.as_slice(), &answers)?;
-    assert!(rt;
-        text.as_str()
-            == "0\n0\n0 1\n0 1\n0 1\n0 1 0\n0 1 1\n0 2\n0 2\n0 1 0\n0 1 2\n0 1\n0 2 0\n0 2 2\n0 1 500 7\n"
+    assert_eq!(rt;
+        text.as_str(),
+        "0\n0\n0 1\n0 1\n0 1\n0 1 0\n0 1 1\n0 2\n0 2\n0 1 0\n0 1 2\n0 1\n0 2 0\n0 2 2\n0 1 500 7\n"
     );
     Ok(())
 }
@@ -86,44 +86,43 @@ fn commands(rt: HostRuntime) {
 #[test]
 fn refusals(rt: HostRuntime) -> Result<(), Fail> {
     let words = printed(rt.alloc(), b"\nj 1\nJJ 1\n J 1\n\xff\nQ", &[])?;
-    assert!(rt; words.as_str() == "60\n60\n60\n60\n60\n60\n");
+    assert_eq!(rt; words.as_str(), "60\n60\n60\n60\n60\n60\n");
     let counts = printed(rt.alloc(), b"J\nJ 1 \nS 1\nP 1 2 3\nK 1 x", &[])?;
-    assert!(rt; counts.as_str() == "61\n61\n61\n61\n61\n");
+    assert_eq!(rt; counts.as_str(), "61\n61\n61\n61\n61\n");
     let numbers = printed(
         rt.alloc(),
         b"J \nJ 01\nJ +1\nJ 1\r\nJ 4294967296\nP 1 0 18446744073709551616 7\nP 1 0 000000000000000000000 7\n",
         &[],
     )?;
-    assert!(rt; numbers.as_str() == "62\n62\n62\n62\n62\n62\n62\n");
+    assert_eq!(rt; numbers.as_str(), "62\n62\n62\n62\n62\n62\n62\n");
     let between = printed(
         rt.alloc(),
         b"J 1\nJ\nK 1",
         &[Answer::Done, Answer::Refused(Refusal::NotJoined)],
     )?;
-    assert!(rt; between.as_str() == "0\n61\n41\n");
+    assert_eq!(rt; between.as_str(), "0\n61\n41\n");
     Ok(())
 }
 
 #[test]
 fn long_inputs(rt: HostRuntime) -> Result<(), Fail> {
     let empty = printed(rt.alloc(), b"", &[])?;
-    assert!(rt; empty.as_str() == "");
+    assert_eq!(rt; empty.as_str(), "");
     let mut input = vec![in rt.alloc(); b'\n'; 65_536]?;
     let lines = parse(rt.alloc(), input.as_slice())?;
     assert_eq!(rt; lines.len(), 65_536);
     input.push(b'J')?;
     let text = printed(rt.alloc(), input.as_slice(), &[])?;
-    assert!(rt; text.as_str() == "63\n");
+    assert_eq!(rt; text.as_str(), "63\n");
     Ok(())
 }
 
 #[test]
 fn tokens(rt: HostRuntime) -> Result<(), Fail> {
-    match token(b"P 1 0 500 7", 3) {
-        Some(Token::Number { bytes, place }) => {
-            assert!(rt; bytes == b"500".as_slice() && place == 6);
-            Ok(())
-        },
-        _ => Err(Fail::new("no number")),
-    }
+    let Some(Token::Number { bytes, place }) = token(b"P 1 0 500 7", 3) else {
+        return Err(Fail::new("no number"));
+    };
+    assert_eq!(rt; bytes, b"500".as_slice());
+    assert_eq!(rt; place, 6);
+    Ok(())
 }

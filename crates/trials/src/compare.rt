@@ -1,192 +1,103 @@
-use crate::model::{Line, Model, Peer, Told};
+use crate::difference::{Difference, same};
+use crate::model::Model;
+use crate::model::ballot::Ballot;
+use crate::model::knowledge::seen;
+use crate::model::line::{Line, NOTHING};
+use crate::model::log::Log;
+use crate::model::peer::Peer;
+use crate::model::told::{Accepted, Told};
 use account::accounts::Accounts;
 use group::device::Device;
 use group::group::Group;
 use group::table::DeviceTable;
-use protocol::link::Link;
 use protocol::slot::Slot;
+use protocol::version::Version;
 use quorum::quorum::Quorum;
-use record::record::Record;
 use record::refusal::Refusal;
 
-// Where a group and the model part, or which promise a run breaks.
-#[derive(Clone, Copy, Debug)]
-pub enum Difference {
-    // what a call was answered, and how many answers a round gave
-    Answer,
-    AnswerCount,
-    // founding
-    Founding,
-    // accounts
-    AccountCount,
-    Length,
-    Record,
-    PastEnd,
-    // devices
-    NoDevice,
-    Joined,
-    Attempt,
-    Known,
-    Phase,
-    Proposed,
-    Carried,
-    Seen,
-    Links,
-    Place,
-    Promised,
-    Accepted,
-    Sent,
-    Own,
-    // one order
-    NobodyProposed,
-    VersionSkipped,
-    OrderRepeats,
-    OrderInvents,
-    OrderLacks,
-    ChainAnswers,
-    OrderEarlier,
-    Held,
-    // rounds
-    RoundUnanswered,
-}
-
 // The first difference between a group and the model, over all that both hold.
-pub fn compare<A: Accounts, Q: Quorum>(group: &Group<A, Q>, model: &Model) -> Option<Difference> {
-    if let Some(difference) = compare_accounts(group.accounts(), model) {
-        return Some(difference);
-    }
+pub fn compare<A: Accounts, Q: Quorum>(
+    group: &Group<A, Q>,
+    model: &Model,
+) -> Result<(), Difference> {
+    compare_accounts(group.accounts(), model)?;
     compare_devices(&group.devices(), model)
 }
 
-fn compare_accounts<A: Accounts>(accounts: &A, model: &Model) -> Option<Difference> {
+fn compare_accounts<A: Accounts>(accounts: &A, model: &Model) -> Result<(), Difference> {
     let count = model.logs.len();
-    if accounts.count() != count {
-        return Some(Difference::AccountCount);
-    }
-    if !matches!(accounts.length(count), Err(Refusal::NoSuchAccount)) {
-        return Some(Difference::AccountCount);
-    }
+    same(accounts.count(), count, Difference::AccountCount)?;
+    let past = accounts.length(count);
+    same(past, Err(Refusal::NoSuchAccount), Difference::AccountCount)?;
     for (k, log) in model.logs.iter().enumerate() {
-        if let Some(difference) = compare_log(accounts, k, log.as_slice()) {
-            return Some(difference);
-        }
+        compare_log(accounts, k, log)?;
     }
-    None
+    Ok(())
 }
 
-fn compare_log<A: Accounts>(accounts: &A, k: usize, log: &[Line]) -> Option<Difference> {
-    let Ok(length) = accounts.length(k) else {
-        return Some(Difference::Length);
+fn compare_log<A: Accounts>(accounts: &A, k: usize, log: &Log) -> Result<(), Difference> {
+    let length = log.lines.len();
+    same(accounts.length(k), Ok(length), Difference::Length)?;
+    for (place, line) in log.lines.iter().enumerate() {
+        let record = accounts.read(k, place).map(Line::from);
+        same(record, Ok(*line), Difference::Record)?;
+    }
+    let past = accounts.read(k, length).map(Line::from);
+    same(past, Err(Refusal::PastEnd), Difference::PastEnd)
+}
+
+fn compare_devices(table: &DeviceTable, model: &Model) -> Result<(), Difference> {
+    for (number, joined) in (0u32..).zip(model.peers.iter()) {
+        let device = table.device(number).ok_or(Difference::NoDevice)?;
+        same(device.joined, joined.is_some(), Difference::Joined)?;
+        let new = Peer::new(number);
+        let peer = joined.as_ref().unwrap_or(&new);
+        let told = joined
+            .as_ref()
+            .map_or([Told::NONE; 7], |peer| model.told(peer));
+        compare_device(&device, peer, seen(&told))?;
+        compare_slots(&device, peer, &told)?;
+    }
+    same(table.device(16).is_some(), false, Difference::NoDevice)
+}
+
+fn compare_device(device: &Device, peer: &Peer, seen: u16) -> Result<(), Difference> {
+    let holds = Version {
+        number: device.known,
+        value: device.value,
     };
-    if length != log.len() {
-        return Some(Difference::Length);
+    same(device.attempt, peer.attempt, Difference::Attempt)?;
+    same(holds, peer.holds, Difference::Known)?;
+    same(device.phase, peer.phase, Difference::Phase)?;
+    same(device.proposed, peer.proposed, Difference::Proposed)?;
+    same(device.carried, peer.carried, Difference::Carried)?;
+    same(device.seen, seen, Difference::Seen)?;
+    for (link, contact) in device.links.iter().zip(peer.contacts.iter()) {
+        same(*link, contact.link, Difference::Links)?;
     }
-    for (place, line) in log.iter().enumerate() {
-        let Ok(record) = accounts.read(k, place) else {
-            return Some(Difference::Record);
-        };
-        if !stands_for(line, &record) {
-            return Some(Difference::Record);
-        }
-    }
-    if !matches!(accounts.read(k, length), Err(Refusal::PastEnd)) {
-        return Some(Difference::PastEnd);
-    }
-    None
+    Ok(())
 }
 
-fn stands_for(line: &Line, record: &Record) -> bool {
-    line.kind == record.kind
-        && line.attempt == record.attempt
-        && line.device == record.device
-        && line.version == record.version
-        && line.value == record.value
+fn compare_slots(device: &Device, peer: &Peer, told: &[Told; 7]) -> Result<(), Difference> {
+    let expected = peer.contacts.iter().zip(told.iter());
+    for (slot, (contact, told)) in device.slots.iter().zip(expected) {
+        same(slot.place, contact.place, Difference::Place)?;
+        same(slot.sent, contact.sent, Difference::Sent)?;
+        compare_slot(slot, told)?;
+    }
+    Ok(())
 }
 
-fn compare_devices(table: &DeviceTable, model: &Model) -> Option<Difference> {
-    for (d, peer) in model.peers.iter().enumerate().take(16) {
-        let number = d as u32;
-        let Some(device) = table.device(number) else {
-            return Some(Difference::NoDevice);
-        };
-        if let Some(difference) = compare_device(&device, peer, model.seen(number, peer)) {
-            return Some(difference);
-        }
-        if let Some(difference) = compare_slots(&device, peer, &model.told(number, peer)) {
-            return Some(difference);
-        }
-    }
-    if table.device(16).is_some() {
-        return Some(Difference::NoDevice);
-    }
-    None
-}
-
-fn compare_device(device: &Device, peer: &Peer, seen: u16) -> Option<Difference> {
-    if device.joined != peer.joined {
-        return Some(Difference::Joined);
-    }
-    if device.attempt != peer.attempt {
-        return Some(Difference::Attempt);
-    }
-    if device.known != peer.known || device.value != peer.value {
-        return Some(Difference::Known);
-    }
-    if device.phase != peer.phase {
-        return Some(Difference::Phase);
-    }
-    if device.proposed != peer.proposed {
-        return Some(Difference::Proposed);
-    }
-    if device.carried != peer.carried {
-        return Some(Difference::Carried);
-    }
-    if device.seen != seen {
-        return Some(Difference::Seen);
-    }
-    for (link, state) in device.links.iter().zip(peer.links.iter()) {
-        if link_number(*link) != *state {
-            return Some(Difference::Links);
-        }
-    }
-    None
-}
-
-fn link_number(link: Link) -> u32 {
-    match link {
-        Link::Up => 0,
-        Link::Down => 1,
-        Link::RepliesLost => 2,
-    }
-}
-
-fn compare_slots(device: &Device, peer: &Peer, told: &[Told]) -> Option<Difference> {
-    for (k, slot) in device.slots.iter().enumerate() {
-        if slot.place != peer.place(k) {
-            return Some(Difference::Place);
-        }
-        if slot.sent != peer.has_sent(k) {
-            return Some(Difference::Sent);
-        }
-        let Some(one) = told.get(k) else {
-            return Some(Difference::Place);
-        };
-        if let Some(difference) = compare_slot(slot, one) {
-            return Some(difference);
-        }
-    }
-    None
-}
-
-fn compare_slot(slot: &Slot, told: &Told) -> Option<Difference> {
-    if slot.view.promised != told.promised {
-        return Some(Difference::Promised);
-    }
-    if slot.view.accepted != told.accepted || slot.view.value != told.value {
-        return Some(Difference::Accepted);
-    }
-    if slot.own != told.own {
-        return Some(Difference::Own);
-    }
-    None
+// A device has the number 0 for no ballot, and a value that is nothing.
+fn compare_slot(slot: &Slot, told: &Told) -> Result<(), Difference> {
+    let promised = told.promised.map_or(0, Ballot::number);
+    let accepted = told
+        .accepted
+        .map_or((0, NOTHING), |Accepted { ballot, value }| {
+            (ballot.number(), value)
+        });
+    let view = slot.view;
+    same(view.promised, promised, Difference::Promised)?;
+    same((view.accepted, view.value), accepted, Difference::Accepted)?;
+    same(slot.own, told.own, Difference::Own)
 }

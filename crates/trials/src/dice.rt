@@ -5,8 +5,12 @@ pub struct Dice {
 }
 
 impl Dice {
-    pub fn new(seed: u64) -> Dice {
-        Dice { state: seed }
+    // Other dice for each run.
+    pub fn for_run(seed: u64, number: u64) -> Dice {
+        let mixed = Dice { state: seed }.next();
+        Dice {
+            state: mixed ^ number.wrapping_mul(0xd1342543de82ef95),
+        }
     }
 
     pub fn next(&mut self) -> u64 {
@@ -20,7 +24,7 @@ impl Dice {
     // A number below n; 0 where n is 0.
     pub fn below(&mut self, n: u32) -> u32 {
         let x = (self.next() >> 33) as u32;
-        if n == 0 { 0 } else { x % n }
+        x.checked_rem(n).unwrap_or(0)
     }
 
     // True once in n times.

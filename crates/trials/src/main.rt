@@ -1,21 +1,31 @@
 // Random runs of groups against a separate, simple model of what they should do.
 #![tactic(auto)]
 
+mod case;
 mod compare;
 mod dice;
+mod difference;
 mod history;
 mod layouts;
 mod model;
 mod picks;
 mod play;
+mod proposal;
+mod rounds;
+mod run_error;
 mod runs;
+mod sets;
+mod stories;
 mod totals;
 mod trial;
 
+use crate::case::{Case, Story};
 use crate::runs::run;
-use crate::trial::{Story, Trial};
+use crate::totals::Totals;
+use crate::trial::Found;
 use anyhow::anyhow;
 use std::env;
+use std::env::Args;
 
 // trials [RUNS [SEED [FIRST]]]: so many runs from a seed, from run FIRST on.
 #[derive(Clone, Copy)]
@@ -25,50 +35,46 @@ struct Wanted {
     first: u64,
 }
 
-fn read_wanted(rt: &HostRuntime) -> anyhow::Result<Wanted> {
-    let mut wanted = Wanted {
-        runs: 4000,
-        seed: 2026,
-        first: 0,
-    };
-    for (i, word) in env::args(rt)?.enumerate().take(4) {
-        let number = match i {
-            0 => continue,
-            _ => word.as_str().parse::<u64>()?,
-        };
-        match i {
-            1 => wanted.runs = number,
-            2 => wanted.seed = number,
-            _ => wanted.first = number,
+impl Wanted {
+    fn case(self, story: Story, i: u64) -> Case {
+        Case {
+            story,
+            seed: self.seed,
+            number: self.first.wrapping_add(i),
         }
     }
-    Ok(wanted)
+}
+
+fn read_wanted(rt: &HostRuntime) -> anyhow::Result<Wanted> {
+    let mut words = env::args(rt)?;
+    let _program = words.next();
+    Ok(Wanted {
+        runs: next_or(&mut words, 4000)?,
+        seed: next_or(&mut words, 2026)?,
+        first: next_or(&mut words, 0)?,
+    })
+}
+
+fn next_or(words: &mut Args, default: u64) -> anyhow::Result<u64> {
+    match words.next() {
+        Some(word) => Ok(word.as_str().parse::<u64>()?),
+        None => Ok(default),
+    }
 }
 
 // Makes one run, and tells where it differs.
-fn make(
-    rt: &HostRuntime,
-    trial: &mut Trial,
-    story: Story,
-    seed: u64,
-    number: u64,
-) -> anyhow::Result<()> {
-    run(trial, story, seed, number)?;
-    if let Some(difference) = trial.found {
-        let call = trial.found_at;
-        println!(rt;
-            "difference in {difference:?} at call {call} of run {number} ({story:?}); to see it again: trials 1 {seed} {number}"
-        )?;
+fn make(rt: &HostRuntime, totals: &mut Totals, case: Case) -> anyhow::Result<()> {
+    if let Some(Found { difference, call }) = run(rt.alloc(), totals, case)? {
+        println!(rt; "difference in {difference:?} at call {call} of {case}")?;
     }
     Ok(())
 }
 
-fn make_all(rt: &HostRuntime, trial: &mut Trial, wanted: Wanted) -> anyhow::Result<()> {
-    make(rt, trial, Story::Versions, wanted.seed, wanted.first)?;
-    make(rt, trial, Story::Attempts, wanted.seed, wanted.first)?;
+fn make_all(rt: &HostRuntime, totals: &mut Totals, wanted: Wanted) -> anyhow::Result<()> {
+    make(rt, totals, wanted.case(Story::Versions, 0))?;
+    make(rt, totals, wanted.case(Story::Attempts, 0))?;
     for i in 0..wanted.runs {
-        let number = wanted.first.wrapping_add(i);
-        make(rt, trial, Story::Random, wanted.seed, number)?;
+        make(rt, totals, wanted.case(Story::Random, i))?;
         if i % 10000 == 9999 {
             let done = i.saturating_add(1);
             eprintln!(rt; "{done} of {} runs", wanted.runs)?;
@@ -77,54 +83,17 @@ fn make_all(rt: &HostRuntime, trial: &mut Trial, wanted: Wanted) -> anyhow::Resu
     Ok(())
 }
 
-fn print_refusals(rt: &HostRuntime, trial: &Trial) -> anyhow::Result<()> {
-    print!(rt; "refusals, each number with how often it was seen:")?;
-    for (number, count) in trial.totals.refusals.iter().enumerate() {
-        if *count > 0 {
-            print!(rt; " {number} ({count})")?;
-        }
-    }
-    println!(rt; "")?;
-    Ok(())
-}
-
-fn print_totals(rt: &HostRuntime, trial: &Trial) -> anyhow::Result<()> {
-    let t = &trial.totals;
-    println!(rt; "runs: {}, calls: {}", t.runs, t.calls)?;
-    print_refusals(rt, trial)?;
-    println!(rt; "proposals: {} opened, {} answered", t.opened, t.answered)?;
-    println!(rt;
-        "versions decided: {}, reads that decided: {}",
-        t.versions, t.decided
-    )?;
-    println!(rt;
-        "preemptions: {}, values taken over from an earlier ACCEPT: {}, ACCEPTs accepted after a higher one: {}",
-        t.preempted, t.adopted, t.late_accepts
-    )?;
-    println!(rt;
-        "rounds that have to end: {} made, {} answered",
-        t.rounds, t.rounds_answered
-    )?;
-    println!(rt; "rounds that need not end: {} made", t.other_rounds)?;
-    println!(rt; "differences: {}", t.differences)?;
-    Ok(())
-}
-
-fn try_all(rt: &HostRuntime) -> anyhow::Result<()> {
-    let wanted = read_wanted(rt)?;
+fn main(rt: HostRuntime) -> anyhow::Result<()> {
+    let wanted = read_wanted(&rt)?;
     let (runs, seed) = (wanted.runs, wanted.seed);
     println!(rt;
         "{runs} random runs from seed {seed}, one to the last version and one to the last attempt"
     )?;
-    let mut trial = Trial::new(rt.alloc())?;
-    make_all(rt, &mut trial, wanted)?;
-    print_totals(rt, &trial)?;
-    if trial.totals.differences > 0 {
+    let mut totals = Totals::new(rt.alloc());
+    make_all(&rt, &mut totals, wanted)?;
+    println!(rt; "{totals}")?;
+    if totals.counts.differences > 0 {
         return Err(anyhow!("the group and the model differ"));
     }
     Ok(())
-}
-
-fn main(rt: HostRuntime) -> anyhow::Result<()> {
-    try_all(&rt)
 }

@@ -1,11 +1,11 @@
-use crate::model::Rule;
+use crate::model::rule::Rule;
 use crate::trial::Trial;
 use protocol::call::Call;
 use record::value::Value;
-use std::alloc::AllocError;
+use std::array;
 
 // What a run does next, by the dice.
-impl Trial {
+impl Trial<'_> {
     // Mostly one of the run's own devices, now and then any other or none at all.
     pub fn pick_device(&mut self) -> u32 {
         match self.dice.below(60) {
@@ -40,25 +40,13 @@ impl Trial {
     }
 
     fn has_sent(&self, device: u32, account: u32) -> bool {
-        match self.model.peer(device) {
-            Ok(peer) => peer.has_sent(account as usize),
-            Err(_) => false,
-        }
+        self.model
+            .peer(device)
+            .is_ok_and(|peer| peer.contact(account as usize).sent)
     }
 
     fn is_idle(&self, device: u32) -> bool {
-        match self.model.peer(device) {
-            Ok(peer) => !peer.is_open(),
-            Err(_) => false,
-        }
-    }
-
-    pub fn account_count(&self) -> u32 {
-        let mut count = 0u32;
-        for _ in self.model.logs.iter() {
-            count = count.saturating_add(1);
-        }
-        count
+        self.model.peer(device).is_ok_and(|peer| !peer.is_open())
     }
 
     // Few values, so that devices propose equal ones, and some that fill their width.
@@ -68,11 +56,12 @@ impl Trial {
             let setup = u32::MAX;
             return Value { root, setup };
         }
-        let root = self.dice.below(3) as u64;
+        let root = u64::from(self.dice.below(3));
         let setup = self.dice.below(2);
         Value { root, setup }
     }
 
+    // A number, since a call may name any: mostly that of a link.
     fn pick_state(&mut self) -> u32 {
         match self.dice.below(20) {
             0..=11 => 0,
@@ -84,7 +73,7 @@ impl Trial {
 
     // Mostly the version that the device holds.
     fn pick_base(&mut self, device: u32) -> u32 {
-        let holds = self.model.holds(Call::Known { device }).number as u32;
+        let holds = u32::from(self.model.holds(Call::Known { device }).number);
         match self.dice.below(12) {
             0 => holds.saturating_add(1),
             1 => self.dice.below(4),
@@ -148,74 +137,6 @@ impl Trial {
             2 => 4,
             _ => 256,
         };
-        let mut weights = [0u8; 7];
-        for weight in weights.iter_mut() {
-            *weight = (self.dice.below(most) & 255) as u8;
-        }
-        Rule::Weight(weights)
-    }
-
-    // The same accounts in another order.
-    pub fn shuffled(&mut self, accounts: &[u32]) -> Result<Vec<u32>, AllocError> {
-        let mut all = accounts.to_vec(self.heap)?;
-        for i in 0..all.len() {
-            let j = self.dice.below(7) as usize;
-            if i < all.len() && j < all.len() {
-                all.swap(i, j);
-            }
-        }
-        Ok(all)
-    }
-
-    // Accounts that a device reaches and that have room for two records: a quorum where they are one, and perhaps more.
-    pub fn pick_set(&mut self, device: u32) -> Result<Vec<u32>, AllocError> {
-        let mut all = Vec::new(self.heap);
-        for k in 0..self.account_count() {
-            if self.is_usable(device, k) {
-                all.push(k)?;
-            }
-        }
-        let all = self.shuffled(all.as_slice())?;
-        let mut set = Vec::new(self.heap);
-        for k in all.iter() {
-            set.push(*k)?;
-            if self.is_quorum(set.as_slice()) && !self.dice.once_in(5) {
-                return Ok(set);
-            }
-        }
-        Ok(set)
-    }
-
-    fn is_usable(&self, device: u32, account: u32) -> bool {
-        let k = account as usize;
-        match self.model.peer(device) {
-            Ok(peer) => peer.link(k) == 0 && self.model.room(k) >= 2,
-            Err(_) => false,
-        }
-    }
-
-    fn is_quorum(&self, set: &[u32]) -> bool {
-        let mut marks = [false; 7];
-        for (mark, k) in marks.iter_mut().zip(0u32..7) {
-            *mark = set.contains(&k);
-        }
-        self.model.is_quorum(&marks)
-    }
-
-    // Whether a round over these accounts has to answer the device's proposal.
-    pub fn is_ready(&self, device: u32, set: &[u32]) -> bool {
-        let open = match self.model.peer(device) {
-            Ok(peer) => peer.is_open(),
-            Err(_) => false,
-        };
-        if !open || self.last_attempt_used || !self.is_quorum(set) {
-            return false;
-        }
-        for account in set {
-            if !self.is_usable(device, *account) {
-                return false;
-            }
-        }
-        true
+        Rule::Weight(array::from_fn(|_| (self.dice.below(most) & 255) as u8))
     }
 }

@@ -1,148 +1,116 @@
-use crate::compare::Difference;
+use crate::case::{Case, Story};
 use crate::dice::Dice;
+use crate::difference::{Difference, same};
 use crate::history::History;
-use crate::model::{Model, Rule, device_of};
-use crate::totals::{Totals, bump};
+use crate::model::rule::Rule;
+use crate::model::{Model, device_of};
+use crate::run_error::RunError;
+use crate::totals::{Counts, Totals, add, bump};
 use protocol::answer::Answer;
 use protocol::call::Call;
 use protocol::outcome::Outcome;
-use protocol::version::Version;
 use record::refusal::Refusal;
 use std::alloc::{AllocError, Global};
 
-// What a run does.
-#[derive(Clone, Copy, Debug)]
-pub enum Story {
-    // calls at random, and rounds
-    Random,
-    // one device after another to the last version
-    Versions,
-    // one device to the last attempt
-    Attempts,
+// Where a run differs, and after how many calls.
+#[derive(Clone, Copy)]
+pub struct Found {
+    pub difference: Difference,
+    pub call: u64,
 }
 
 // One run: the dice, the model beside the group, and what was seen so far.
 #[derive(Drop)]
-pub struct Trial {
+pub struct Trial<'a> {
     pub heap: Global,
+    totals: &'a mut Totals,
     pub story: Story,
     pub dice: Dice,
     // most records in an account
-    pub limit: u32,
+    limit: u32,
     // how many devices make most calls
     pub cast: u32,
     pub model: Model,
     pub history: History,
     pub calls: u64,
     pub last_attempt_used: bool,
-    // the first difference, and after how many calls
-    pub found: Option<Difference>,
-    pub found_at: u64,
-    pub totals: Totals,
 }
 
-impl Trial {
-    pub fn new(heap: Global) -> Result<Trial, AllocError> {
-        Ok(Trial {
-            heap,
-            story: Story::Random,
-            dice: Dice::new(0),
-            limit: 1,
-            cast: 1,
-            model: Model::new(heap, Rule::Count)?,
-            history: History::new(heap),
-            calls: 0,
-            last_attempt_used: false,
-            found: None,
-            found_at: 0,
-            totals: Totals::new(heap)?,
-        })
-    }
-
-    // Begins a run: the same seed and number give the same run.
-    pub fn begin(&mut self, story: Story, seed: u64, run: u64) -> Result<(), AllocError> {
-        let heap = self.heap;
-        let mut mixer = Dice::new(seed);
-        self.dice = Dice::new(mixer.next() ^ run.wrapping_mul(0xd1342543de82ef95));
-        self.story = story;
-        self.limit = match self.dice.below(4) {
+impl<'a> Trial<'a> {
+    pub fn new(heap: Global, totals: &'a mut Totals, case: Case) -> Trial<'a> {
+        let mut dice = Dice::for_run(case.seed, case.number);
+        let limit = match dice.below(4) {
             0 => 4,
             1 => 10,
             _ => 40,
         };
-        self.cast = self.dice.below(6).saturating_add(1);
-        self.model = Model::new(heap, Rule::Count)?;
-        self.history = History::new(heap);
-        self.calls = 0;
-        self.last_attempt_used = false;
-        self.found = None;
-        self.found_at = 0;
-        Ok(())
-    }
-
-    // Ends a run: what it did goes into the totals.
-    pub fn end(&mut self) {
-        bump(&mut self.totals.runs);
-        let opened = self.history.proposals.len() as u64;
-        self.totals.opened = self.totals.opened.saturating_add(opened);
-        let answered = self.history.answered();
-        self.totals.answered = self.totals.answered.saturating_add(answered);
-        let versions = self.history.decided as u64;
-        self.totals.versions = self.totals.versions.saturating_add(versions);
-        let late = self.model.late_accepts();
-        self.totals.late_accepts = self.totals.late_accepts.saturating_add(late);
-        if self.found.is_some() {
-            bump(&mut self.totals.differences);
+        let cast = dice.below(6).saturating_add(1);
+        Trial {
+            heap,
+            totals,
+            story: case.story,
+            dice,
+            limit,
+            cast,
+            model: Model::new(heap, Rule::Count),
+            history: History::new(heap),
+            calls: 0,
+            last_attempt_used: false,
         }
     }
 
-    // Keeps the first difference of the run.
-    pub fn judge(&mut self, difference: Option<Difference>) {
-        if self.found.is_none() {
-            self.found = difference;
-            self.found_at = self.calls;
+    // What all runs together did so far.
+    pub fn counts(&mut self) -> &mut Counts {
+        &mut self.totals.counts
+    }
+
+    // Ends a run: what it did goes into the totals, and where it differs is told.
+    pub fn end(&mut self, outcome: Result<(), RunError>) -> Result<Option<Found>, AllocError> {
+        let counts = &mut self.totals.counts;
+        bump(&mut counts.runs);
+        add(&mut counts.opened, self.history.proposals.len() as u64);
+        add(&mut counts.answered, self.history.answered() as u64);
+        add(&mut counts.versions, u64::from(self.history.decided));
+        add(&mut counts.late_accepts, self.model.late_accepts());
+        match outcome {
+            Ok(()) => Ok(None),
+            Err(RunError::NoMemory(error)) => Err(error),
+            Err(RunError::Differs(difference)) => {
+                bump(&mut counts.differences);
+                let call = self.calls;
+                Ok(Some(Found { difference, call }))
+            }
         }
     }
 
     // Holds what a check said against what it should say.
-    pub fn expect(&mut self, said: Result<(), Refusal>, expected: Result<(), Refusal>) {
+    pub fn expect(
+        &mut self,
+        said: Result<(), Refusal>,
+        expected: Result<(), Refusal>,
+    ) -> Result<(), RunError> {
         if let Err(refusal) = said {
-            self.totals.count_refusal(refusal);
+            self.totals.count_refusal(refusal)?;
         }
-        let same = match (said, expected) {
-            (Ok(()), Ok(())) => true,
-            (Err(a), Err(b)) => a == b,
-            _ => false,
-        };
-        if !same {
-            self.judge(Some(Difference::Founding));
-        }
+        same(said, expected, Difference::Founding)?;
+        Ok(())
     }
 
     // One call that the group answered: the model makes it too.
-    pub fn take(&mut self, call: Call, answer: Answer) -> Result<(), AllocError> {
+    pub fn take(&mut self, call: Call, answer: Answer) -> Result<(), RunError> {
         bump(&mut self.calls);
-        self.totals.count(answer);
+        self.totals.count(answer)?;
         let expected = self.model.call(call)?;
-        if answer != expected {
-            self.judge(Some(Difference::Answer));
-        }
-        if answer == Answer::Attempt(65535) {
+        same(answer, expected, Difference::Answer)?;
+        if answer == Answer::Attempt(u16::MAX) {
             self.last_attempt_used = true;
         }
         let prepared = matches!(answer, Answer::Taken(_, Outcome::Prepared));
         if prepared && self.model.has_adopted(device_of(call)) {
-            bump(&mut self.totals.adopted);
+            bump(&mut self.totals.counts.adopted);
         }
         let holds = self.model.holds(call);
         self.history.note(self.calls, call, answer, holds)
-    }
-
-    // Whether the order of the run's proposals is as it should be.
-    pub fn settle(&mut self, held: &[Version]) -> Result<(), AllocError> {
-        let difference = self.history.check(self.heap, held)?;
-        self.judge(difference);
-        Ok(())
     }
 
     // The size of the layout's next account.

@@ -1,20 +1,17 @@
-use Rattle.std.proofs.Common.{ℕ, length, arith}
-use Rattle.std.proofs.lemmas.List.{at_drop_all}
-use Rattle.std.proofs.lemmas.Bool.{cond-true, cond-false, eq-eqb, ne_eqb}
-use Rattle.script.specs.Parts.{parted, fields_of}
-use Rattle.script.proofs.Cuts.{fields-more}
+use Rattle.std.proofs.Common.{◌≤◌, cond, length, sum_by, rules, tests, ap, arith}
+use Rattle.std.proofs.lemmas.Iterator.{YieldsList-from_slice, YieldsList-from_map}
+use Rattle.std.proofs.lemmas.Iterator.Consumers.{fits_by_from_yields_list}
+use Rattle.std.proofs.lemmas.List.Sums.{count_by-le-length}
+use Rattle.script.proofs.Cuts.{space, numbers-are}
 use Rattle.script.proofs.cut.count_numbers.Goals as goal
-use Rattle.script.proofs.cut.count_numbers.Goals.{then-b-eq32, else-b-eq32}
 
-pub loop-b-preserved : goal.loop-b-preserved
-loop-b-preserved c =
-    let more = fields-more c.args.line.now c.loop-b.b-index c.loop-b-test.true in
-    elim c.if-b-eq32.branch [
-      | then-b-eq32 w ↦ let e = cond-true {A = ℕ} _ 1 0 (eq-eqb _ 32 w.if-b-eq32.true) in (omega (arith, more, e, w.count-is, c.loop-b.invariant), omega (arith, w.count-is, c.loop-b.invariant))
-      | else-b-eq32 w ↦ let e = cond-false {A = ℕ} _ 1 0 (ne_eqb _ 32 w.if-b-eq32.false) in (omega (arith, more, e, w.count-is, c.loop-b.invariant), omega (arith, w.count-is, c.loop-b.invariant))
-    ]
+pub sum-requires-clause-fits : goal.sum-requires-clause-fits
+sum-requires-clause-fits c =
+    let line = c.args.line.now in
+    let few : sum_by (λ b. cond (space b) 1 0) line ≤ length line = count_by-le-length space line in
+    fits_by_from_yields_list (λ b. cond (space b) 1 0) line c.map.result _
+    (YieldsList-from_map _ (λ b. cond (space b) 1 0) (YieldsList-from_slice line cc) c.map.ensures.closure (λ x r q k. search (rules, tests)))
+    (omega (arith, ap length c.iter.ensures.rest, c.iter.ensures.bound))
 
 pub returns : goal.returns
-unfolding parted
-returns c =
-    omega (arith, at_drop_all (λ l. length (fields_of l)) c.args.line.now c.loop-b.b-index c.loop-b-test.false, c.loop-b.invariant)
+returns c = rw numbers-are (search rules)

@@ -1,4 +1,4 @@
-use Rattle.std.proofs.Common.{◌≡◌, ◌-◌, ◌≤◌, eqb, length, drop}
+use Rattle.std.proofs.Common.{◌≡◌, ◌==◌, ◌-◌, ◌≤◌, length, drop}
 use Rattle.std.specs.List.{slice_get}
 use Rattle.script.specs.Parts.{fields_of, parts_from, parts_of}
 use Rattle.script.proofs.cut.start.Given as goal
@@ -7,4 +7,4 @@ use Rattle.script.proofs.cut.start.Given as goal
 abbrev pub invariant-loop-passed : goal.invariant-loop-passed
 invariant-loop-passed l =
     (l.place ≤ length l.line)
-    × (slice_get (parts_from (eqb l.passed 0) l.place (fields_of (drop l.place l.line))) (l.index - l.passed) ≡ slice_get (parts_of l.line) l.index)
+    × (slice_get (parts_from (l._passed == 0) l.place (fields_of (drop l.place l.line))) (l.index - l._passed) ≡ slice_get (parts_of l.line) l.index)

@@ -1,30 +1,22 @@
-use Rattle.std.proofs.Common.{◌+◌, [], ◌∷◌, ◌++◌, drop, vec_items, sym, ap, ◌∙◌, append-nil}
-use Rattle.std.proofs.lemmas.List.{drop_all}
+use Rattle.std.proofs.Common.{◌≡◌, List, [], ◌∷◌, Ok, Err, Result, refl, ap, rules, tests}
+use Rattle.std.proofs.lemmas.Iterator.{YieldsList-from_slice, items_from_collect}
+use Rattle.std.proofs.lemmas.Iterator.Consumers.{YieldsList-from_filter_map}
+use Rattle.std.specs.List.{filter_map}
+use Rattle.std.specs.Result.{result_ok}
+use Rattle.record.specs.declared.refusal.Refusal.{Refusal}
+use Rattle.protocol.specs.declared.call.Call.{Call}
 use Rattle.script.specs.Script.{calls_of}
-use Rattle.script.proofs.Steps.{grown, next-is}
 use Rattle.script.proofs.lines.calls.Goals as goal
-use Rattle.script.proofs.lines.calls.Goals.{in-Ok+in_ok-push, in_default}
 
-pub loop-line-preserved : goal.loop-line-preserved
+-- the calls of the lines that are not refused, in std's words
+calls-are : (ls : List (Result Call Refusal)) → filter_map result_ok ls ≡ calls_of ls
 unfolding calls_of
-loop-line-preserved c =
-    let lines = c.args.lines.now in
-    let i = c.loop-line.line-index in
-    let was = vec_items c.loop-line.calls in
-    let later = calls_of (drop (i + 1) lines) in
-    elim c.match-line.branch [
-      | in-Ok+in_ok-push w ↦ grown was (vec_items c.match-line.calls) (w.in-Ok.call ∷ []) later _
-          (ap vec_items w.calls-is ∙ w.in_ok-push.ensures.items)
-          (ap (λ ls. was ++ calls_of ls) (sym (next-is lines i _ _ c.loop-line-test.true w.in-Ok.is)) ∙ c.loop-line.invariant)
-      | in_default w ↦ ap (λ v. vec_items v ++ later) w.calls-is
-          ∙ ap (λ ls. was ++ calls_of ls) (sym (next-is lines i _ _ c.loop-line-test.true w.in_default.is))
-          ∙ c.loop-line.invariant
-    ]
+calls-are [] = refl
+calls-are (Ok c ∷ ls) = ap (λ cs. c ∷ cs) (calls-are ls)
+calls-are (Err e ∷ ls) = calls-are ls
 
 pub returns : goal.returns
-unfolding calls_of
 returns c =
-    let was = vec_items c.loop-line.calls in
-    sym (append-nil was)
-    ∙ ap (λ ls. was ++ calls_of ls) (sym (drop_all c.loop-line.line-index c.args.lines.now c.loop-line-test.false))
-    ∙ c.loop-line.invariant
+    rw (← calls-are)
+    (items_from_collect _ c.collect.ensures.ran
+    (YieldsList-from_filter_map _ result_ok (YieldsList-from_slice c.args.lines.now cc) c.filter_map.ensures.closure (λ x r q k. search (rules, tests))))
