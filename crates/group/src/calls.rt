@@ -30,7 +30,7 @@ pub trait Calls {
     fn join(&mut self, device: u32) -> Result<(), Refusal>
         ensures { (result, model self.new) ≡ joins (model self.old) device };
 
-    // Sets one link of one device: 0 up, 1 down, 2 replies lost.
+    // Sets one link of one device: 0 up, 1 down, 2 replies lost. A number, since a caller may name any.
     fn link(&mut self, device: u32, account: u32, state: u32) -> Result<(), Refusal>
         ensures { (result, model self.new) ≡ links (model self.old) device account state };
 
@@ -87,7 +87,7 @@ pub trait Calls {
         }
     }
 
-    // Makes a list of calls in turn. Without memory for the answers it makes none.
+    // Makes a list of calls in turn. Without memory for the answers it makes none. The heap is a handle, and no part of the calls.
     // Whatever calls to a new group led here, their proposals and these have one order.
     final fn run(&mut self, heap: Global, calls: &[Call]) -> Result<Vec<Answer>, AllocError>
         ensures run { Ran (model self.old) (model self.new) calls.now result }

@@ -44,10 +44,7 @@ impl Device {
         ensures { result ≡ next_in self.now }
     {
         let highest = self.attempt.max(self.seen);
-        if highest == u16::MAX {
-            return Err(Refusal::NoAttemptLeft);
-        }
-        Ok(highest + 1)
+        highest.checked_add(1).ok_or(Refusal::NoAttemptLeft)
     }
 
     // Prepares a value under the next attempt, and nothing is marked.

@@ -8,7 +8,7 @@ use protocol::version::Version;
 use record::refusal::Refusal;
 use std::alloc::{AllocError, Global};
 
-// One answer, as a line.
+// One answer, as a line. No Display: the text is the script's own, and the type another crate's.
 fn write_answer(out: &mut String, answer: Answer) -> Result<(), AllocError>
     ensures { OnOk result (Gains out.old out.new (answer_line answer)) }
 {

@@ -10,6 +10,8 @@ use account::account::Account;
 use record::record::Record;
 use record::refusal::Refusal;
 
+// Each kind shows by itself what an account means, over memory of its own: what its calls have in common with the other kind's
+// is that meaning, and stands in the trait.
 impl<'a> ByteLog<'a> {
     // How many records an area has room for, or that no log can be founded on it.
     pub fn check(area: &[u8]) -> Result<usize, Refusal>
