@@ -4,7 +4,7 @@ use crate::accounts::Accounts;
 use record::record::Record;
 use record::refusal::Refusal;
 
-// No account: each call of one is refused, in the words of its own result.
+// No account: each call of one is refused. The three say so alike, each for the result that it has.
 #[derive(Clone, Copy)]
 pub struct End;
 

@@ -5,7 +5,8 @@ use crate::accounts::Accounts;
 use record::record::Record;
 use record::refusal::Refusal;
 
-// One account, and those after it. Each call goes one step on by itself: a function that picks the account would have to lend either type.
+// One account, and those after it. The three calls go on alike: one function that picks
+// the account could not answer it, since the first and the rest are of different types.
 #[derive(Drop)]
 pub struct Pair<'a, A, B> {
     pub first: &'a mut A,

@@ -55,3 +55,8 @@ zipped f P g (k ∷ ks) (c ∷ cs) z = λ i. g k c z.0 i ∷ zipped f P g ks cs 
 
 pub added : (f : ℕ → Call) (P : ℕ → Call → Type 0) (ks : List ℕ) (old new : List Call) → ((k : ℕ) (c : Call) → P k c → c ≡ f k) → AddsEach P ks old new → new ≡ old ++ map f ks
 added f P ks old new g a = a.1 ∙ ap (λ l. old ++ l) (zipped f P g ks a.0 a.2)
+
+-- the same of a call: what it answers and leaves is what the protocol says of its reply
+pub called : {X : Type 0} (f : X → Answer) (m n : Model) (reply : Reply X) (r : Result X Refusal) (a : Answer) (P : X → Type 0)
+    → (r, n) ≡ leaves m reply → MatchResult r P (λ e. a ≡ Refused e) → ((x : X) → P x → a ≡ f x) → (a, n) ≡ leaves m (to_answer f reply)
+called f m n reply r a P e x g = answered f m n reply r a e (answer-is f r a P x g)

@@ -1,26 +1,13 @@
 -- Whether accounts are empty, and what a group that can be founded is. Assumes nothing.
-use Rattle.std.proofs.Common.{◌≡◌, ℕ, zero, suc, ◌+◌, ◌<◌, ◌≤◌, true, false, not, ◌&&◌, eqb, List, [], ◌∷◌, length, drop, Ok, refl, ap, ◌∙◌, arith}
-use Rattle.std.proofs.lemmas.List.{drop_more, drop_all, nil_from_length}
-use Rattle.std.proofs.lemmas.Bool.{eq-eqb, ne_eqb, eqb-true, and_parts, not-false}
+use Rattle.std.proofs.Common.{◌≡◌, ℕ, zero, suc, true, not, eqb, List, [], ◌∷◌, length, Ok, refl}
+use Rattle.std.proofs.lemmas.List.{nil_from_length}
+use Rattle.std.proofs.lemmas.Bool.{eqb-true, and_parts, not-false}
 use Rattle.record.proofs.Tables.{passed}
 use Rattle.account.specs.Books.{Book}
 use Rattle.quorum.specs.Rules.{Rule}
-use Rattle.protocol.specs.State.{no_book}
 use Rattle.protocol.specs.Runs.{New}
 use Rattle.group.specs.Founding.{all_empty, founding, new_state}
 use Rattle.group.specs.Models.{log_of}
-
-module _ (bs : List Book) (k : ℕ) (h : k < length bs) where
-  pub filled-here : 0 < length (log_of bs k) → all_empty (drop k bs) ≡ false
-  filled-here n =
-      let z : eqb (length (log_of bs k)) 0 ≡ false = ne_eqb (length (log_of bs k)) 0 (omega arith) in
-      ap all_empty (drop_more bs k no_book h) ∙ ap (λ b. b && all_empty (drop (k + 1) bs)) z
-
-  pub empty-here : length (log_of bs k) ≡ 0 → all_empty (drop k bs) ≡ all_empty (drop (k + 1) bs)
-  empty-here z = ap all_empty (drop_more bs k no_book h) ∙ ap (λ b. b && all_empty (drop (k + 1) bs)) (eq-eqb (length (log_of bs k)) 0 z)
-
-pub empty-end : (bs : List Book) (k : ℕ) → length bs ≤ k → all_empty (drop k bs) ≡ true
-empty-end bs k h = ap all_empty (drop_all k bs h)
 
 no-records : (bs : List Book) → all_empty bs ≡ true → (k : ℕ) → log_of bs k ≡ []
 no-records [] e k = refl

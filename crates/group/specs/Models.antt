@@ -1,5 +1,5 @@
 -- What the program's records mean: the states of the protocol.
-use Rattle.std.specs.Prelude.{ℕ, false, cond, List, [], ◌∷◌, map, Some, None, Ok, Err, Option, Result, nat_lt, slice_index_or, slice_set}
+use Rattle.std.specs.Prelude.{ℕ, false, cond, List, [], ◌∷◌, Some, None, Ok, Err, Option, Result, nat_lt, slice_index_or, slice_set}
 use Rattle.record.specs.Checks.{when, unless}
 use Rattle.record.specs.Entry.{Entry}
 use Rattle.record.specs.declared.refusal.Refusal.{Refusal}

@@ -95,7 +95,7 @@ impl Device {
     pub(crate) fn ballot(&self, d: DeviceNumber) -> u32
         ensures { result ≡ own_ballot d.number self.now }
     {
-        self.attempt as u32 * 16 + d.number as u32
+        u32::from(self.attempt) * 16 + u32::from(d.number)
     }
 
     // What it asks of an account, as device d.

@@ -5,7 +5,8 @@ use record::value::Value;
 use std::marker::Model;
 
 // What one device holds: contracts see it as the protocol's device.
-// The rules of a device name these fields one by one, and say what each is while another marks that nothing is open or joined.
+// The rules of devices name these fields one by one, also where no proposal is open or the device has not joined.
+// Links stand apart from slots: a restart and a decision clear every slot and keep every link.
 #[derive(Clone, Copy)]
 pub struct Device {
     pub joined: bool,

@@ -49,7 +49,6 @@ fn all_empty<A: Accounts>(accounts: &A, count: usize) -> bool
     requires { count ≡ length (A.Accounts.books accounts.now) }
     ensures { result ≡ all_empty (A.Accounts.books accounts.now) }
 {
-    // accounts of any kinds have no iterator: they are told by numbers
     for k in 0..count {
         if log_length(accounts, k) != 0 {
             return false;

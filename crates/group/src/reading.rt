@@ -72,7 +72,7 @@ impl Device {
         let own = notes.own || self.confirms(d, notes.view, r);
         let seen = self.highest_attempt(notes.seen, r);
         let mut view = notes.view;
-        view.tell(self.known as u32 + 1, r);
+        view.tell(u32::from(self.known) + 1, r);
         Notes { view, own, seen }
     }
 
@@ -88,7 +88,6 @@ impl Device {
         ensures { result ≡ notes_from d.number self.now (A.Accounts.books accounts.now) k.number }
     {
         let mut notes = self.notes(k);
-        // records are told by places, and a place before the end has one
         for i in self.place(k)..end {
             if let Ok(r) = accounts.read(k.number, i) {
                 notes = self.note(d, notes, &r);

@@ -5,7 +5,7 @@ ghost use Rattle.group.specs.Rounds.{orders_of, AddsEach};
 use protocol::call::Call;
 use std::alloc::{AllocError, Global};
 
-// An order of the same accounts for each pass of a round.
+// An order of the same accounts for each pass of a round, by the names that the law of a round has for them.
 #[derive(Clone, Copy)]
 pub struct Orders<'a> {
     pub first: &'a [u32],

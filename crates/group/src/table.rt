@@ -1,6 +1,6 @@
 ghost use Rattle.std.specs.Prelude.{◌≡◌, ◌<◌, false, [], replicate, slice_set};
 ghost use Rattle.record.specs.Checks.{unless};
-ghost use Rattle.protocol.specs.Device.{new_device, with_link, restarted, next_attempt, opened};
+ghost use Rattle.protocol.specs.Device.{new_device, with_link, restarted};
 ghost use Rattle.protocol.specs.Refusals.{device_checks};
 ghost use Rattle.group.specs.Models.{sought, device_in, attempted_in, state_of};
 ghost use Rattle.group.specs.Numbers.{device_number_in};
@@ -13,7 +13,8 @@ use record::refusal::Refusal;
 use record::value::Value;
 use std::marker::Model;
 
-// Sixteen devices, told by their numbers: contracts see the list of them.
+// Sixteen devices, told by their numbers: contracts see the list of them. A method that changes a record lends it inside:
+// no reference to one leaves the table. That there are sixteen, by value, is a rule of devices.
 #[derive(Clone, Copy)]
 pub struct DeviceTable {
     pub(crate) rows: [Device; 16],
@@ -52,7 +53,7 @@ impl DeviceTable {
         ensures { result ≡ device_in self.now d.number }
     {
         let rows: &[Device] = &self.rows;
-        rows[d.number as usize]
+        rows[usize::from(d.number)]
     }
 
     // The number of a device that has joined.
@@ -60,7 +61,8 @@ impl DeviceTable {
         ensures { device_number_in result ≡ unless (device_checks (state_of [] self.now) device) device }
     {
         let d = DeviceNumber::try_from(device)?;
-        if !self.get(d).joined {
+        let device = &self.rows[usize::from(d.number)];
+        if !device.joined {
             return Err(Refusal::NotJoined);
         }
         Ok(d)
@@ -70,20 +72,20 @@ impl DeviceTable {
     pub(crate) fn put(&mut self, d: DeviceNumber, device: Device)
         ensures { self.new ≡ slice_set self.old d.number device }
     {
-        self.rows[d.number as usize] = device;
+        self.rows[usize::from(d.number)] = device;
     }
 
     pub(crate) fn set_link(&mut self, d: DeviceNumber, k: AccountNumber, link: Link)
         ensures { self.new ≡ slice_set self.old d.number (with_link (device_in self.old d.number) k.number link) }
     {
-        let device = &mut self.rows[d.number as usize];
+        let device = &mut self.rows[usize::from(d.number)];
         device.set_link(k, link);
     }
 
     pub(crate) fn restart(&mut self, d: DeviceNumber)
         ensures { self.new ≡ slice_set self.old d.number (restarted (device_in self.old d.number)) }
     {
-        let device = &mut self.rows[d.number as usize];
+        let device = &mut self.rows[usize::from(d.number)];
         device.restart();
     }
 
@@ -92,17 +94,9 @@ impl DeviceTable {
         requires { (device_in self.old d.number).known < 1023 }
         ensures { (result, self.new) ≡ attempted_in self.old d.number value }
     {
-        let attempt = self.get(d).next_attempt()?;
-        self.begin(d, attempt, value);
-        Ok(attempt)
-    }
-
-    fn begin(&mut self, d: DeviceNumber, attempt: u16, value: Value)
-        requires next { attempt ≡ next_attempt (device_in self.old d.number) }
-        requires version { (device_in self.old d.number).known < 1023 }
-        ensures { self.new ≡ slice_set self.old d.number (opened (device_in self.old d.number) value) }
-    {
-        let device = &mut self.rows[d.number as usize];
+        let device = &mut self.rows[usize::from(d.number)];
+        let attempt = device.next_attempt()?;
         device.begin(attempt, value);
+        Ok(attempt)
     }
 }

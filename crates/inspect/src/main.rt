@@ -6,12 +6,12 @@ use std::io;
 use std::io::{Read, Write};
 
 // One byte more than an area may have, so that a longer log is told from a full one.
-const MOST: usize = 65537;
+const MOST: u64 = 65537;
 
-// As `gafflemon` reads a script: two programs without a crate in common, and two lines.
+// As `gafflemon` reads a script: two lines, for which the two programs would need one more crate in common.
 fn read_log(rt: &HostRuntime) -> io::Result<Vec<u8>> {
     let mut log = Vec::new(rt.alloc());
-    rt.stdin().take(MOST as u64).read_to_end(&mut log)?;
+    rt.stdin().take(MOST).read_to_end(&mut log)?;
     Ok(log)
 }
 

@@ -34,7 +34,7 @@ impl View {
     pub fn tell(&mut self, version: u32, r: &Record)
         ensures { self.new ≡ tell version self.old (entry_of r.now) }
     {
-        if r.version as u32 != version {
+        if u32::from(r.version) != version {
             return;
         }
         let ballot = r.ballot();

@@ -18,5 +18,5 @@ pub fn calls_in_round(accounts: u8) -> u16
     ensures count { result ≡ 5 * accounts + 1 }
     ensures answered { A-round-ends }
 {
-    5 * accounts as u16 + 1
+    5 * u16::from(accounts) + 1
 }

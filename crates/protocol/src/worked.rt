@@ -5,7 +5,8 @@ ghost use Rattle.protocol.specs.Worked.{majority_of_three, three_accounts, worke
 use crate::call::Call;
 use record::value::Value;
 
-// The calls of the worked run, written out: where closures made them, the proof by evaluation did not close. Made to three empty accounts counted by majority, they are answered as its table says.
+// The calls of the worked run, written out (tried: closures that make them; the proof by evaluation did not close).
+// Made to three empty accounts counted by majority, they are answered as its table says.
 pub fn worked_calls() -> [Call; 15]
     ensures calls { result ≡ map (λ line. line.0) worked_run }
     ensures answers { (runs majority_of_three three_accounts result).0 ≡ map (λ line. line.1) worked_run }

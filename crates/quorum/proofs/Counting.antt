@@ -1,8 +1,8 @@
 -- What marks count and weigh together, as the rules' loops go over them. Assumes nothing.
-use Rattle.std.proofs.Common.{◌≡◌, ℕ, zero, suc, ◌+◌, ◌<◌, ◌≤◌, Bool, true, false, cond, List, [], ◌∷◌, ◌++◌, length, take, slice_index_or, count_by, refl, sym, ap, ◌∙◌, arith, add-zero, add-one, ◌⊎◌, inl, inr}
-use Rattle.std.proofs.lemmas.List.Sums.{count_by_more_yes, count_by_more_no}
+use Rattle.std.proofs.Common.{sum, ◌≡◌, ℕ, zero, suc, ◌+◌, ◌<◌, ◌≤◌, Bool, true, false, cond, List, [], ◌∷◌, ◌++◌, length, take, slice_index_or, count_by, refl, sym, ap, ◌∙◌, arith, add-zero, add-one, ◌⊎◌, inl, inr}
+use Rattle.std.proofs.lemmas.List.Sums.{count_by_more_yes, count_by_more_no, sum_by-cons}
 use Rattle.quorum.specs.Rules.{marked}
-use Rattle.quorum.specs.Weights.{weight, weight_in, members}
+use Rattle.quorum.specs.Weights.{weight, weight_in, members, everyone, total}
 
 -- the marked ones of n accounts
 pub counted : (S : List Bool) (n : ℕ) → n ≤ length S → count_by (λ m. m) (take n S) ≡ members n (marked S)
@@ -46,3 +46,12 @@ held-in xs ws rest k e h = ap (λ l. weight_in (l ++ rest) k) e ∙ at ws k h
     at [] k h = absurd (omega arith)
     at (w ∷ l) zero h = refl
     at (w ∷ l) (suc k) h = at l k (omega arith)
+
+-- all weights together
+everyone-front : (w : ℕ) (ws : List ℕ) (n : ℕ) → weight (weight_in (w ∷ ws)) (suc n) everyone ≡ w + weight (weight_in ws) n everyone
+everyone-front w ws zero = omega arith
+everyone-front w ws (suc n) = let e = everyone-front w ws n in omega arith
+
+pub summed : (ws : List ℕ) → sum ws ≡ total ws
+summed [] = refl
+summed (w ∷ ws) = sum_by-cons (λ x. x) w ws ∙ ap (λ x. w + x) (summed ws) ∙ sym (everyone-front w ws (length ws))

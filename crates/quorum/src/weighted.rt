@@ -28,10 +28,7 @@ impl Weighted {
         if n < 1 || n > 7 {
             return Err(Refusal::BadAccountCount);
         }
-        let mut total = 0u32;
-        for weight in weights {
-            total += *weight as u32;
-        }
+        let total: u32 = weights.iter().map(|weight| u32::from(*weight)).sum();
         if total == 0 {
             return Err(Refusal::NoWeight);
         }
@@ -58,7 +55,7 @@ impl Quorum for Weighted {
         let mut weight = 0u32;
         for (marked, of_it) in set.iter().zip(&self.weights[..self.n]) {
             if *marked {
-                weight += *of_it as u32;
+                weight += u32::from(*of_it);
             }
         }
         2 * weight > self.total

@@ -1,13 +1,12 @@
 -- A loop over records, by what is still to come. Assumes nothing.
-use Rattle.std.proofs.Common.{not, ◌==◌, ◌≡◌, ℕ, suc, ◌+◌, ◌<◌, ◌≤◌, Bool, true, false, cond, ◌||◌, List, [], ◌∷◌, ◌++◌, map, length, get_or, drop, is_some, Some, None, Option, sym, refl, ap, ◌∙◌, append-nil, append_assoc, add-zero, add-one, arith, drop-cons}
+use Rattle.std.proofs.Common.{◌==◌, ◌≡◌, ℕ, suc, ◌+◌, ◌<◌, ◌≤◌, Bool, true, false, cond, ◌||◌, List, [], ◌∷◌, ◌++◌, map, length, get_or, drop, is_some, Some, None, Option, sym, refl, ap, ◌∙◌, append-nil, append_assoc, add-zero, add-one, arith, drop-cons}
 use Rattle.std.proofs.lemmas.List.{drop_all}
-use Rattle.journal.specs.Log.{is_accept, says}
+use Rattle.journal.specs.Log.{says}
 use Rattle.journal.specs.declared.view.View.{View}
 use Rattle.record.specs.Entry.{Entry, entry_of}
 use Rattle.std.specs.List.{list_any}
-use Rattle.std.proofs.lemmas.List.Sums.{count_by-le-length}
 use Rattle.record.specs.declared.record.Record.{Record}
-use Rattle.report.specs.Report.{record_lines, occurs, prepares, surveyed, version_line, version_lines, version_count, occurrence}
+use Rattle.report.specs.Report.{record_lines, occurs, surveyed, version_line, version_lines, version_count, occurrence}
 use Rattle.report.specs.Lines.{record_line}
 
 -- a piece that is written is one less to come
@@ -64,9 +63,6 @@ counted-end w es n = add-zero n
 pub one_at_most : {X : Type 0} (o : Option X) → cond (is_some o) 1 0 ≤ 1
 one_at_most None = omega arith
 one_at_most (Some x) = omega arith
-
-pub prepares-few : (es : List Entry) → prepares es ≤ length es
-prepares-few es = count_by-le-length (λ e. not (is_accept e.kind)) es
 
 -- a test of what records say is the test of the records
 pub occurs_is : (w : ℕ) (rs : List Record) → list_any (λ r. r.version == w) rs ≡ occurs w (map entry_of rs)

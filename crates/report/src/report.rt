@@ -13,7 +13,7 @@ use std::alloc::{AllocError, Global};
 fn occurs(records: &[Record], version: u32) -> bool
     ensures { result ≡ occurs version (map entry_of records.now) }
 {
-    records.iter().any(|r| r.version as u32 == version)
+    records.iter().any(|r| u32::from(r.version) == version)
 }
 
 // What the records say about a version, if one of them is of that version.

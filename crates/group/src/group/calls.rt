@@ -41,7 +41,7 @@ impl<A: Accounts, Q: Quorum> Calls for Group<A, Q> {
         if row.is_open() {
             return Err(Refusal::ProposalOpen);
         }
-        if base != row.known as u32 {
+        if base != u32::from(row.known) {
             return Err(Refusal::OtherBase);
         }
         if row.known == 1023 {

@@ -28,6 +28,7 @@ impl Shelf {
     }
 }
 
+// As somebody else would write it, who has only the trait: nothing is shared with the two kinds of storage.
 impl Account for Shelf {
     ghost book = { shelf_book };
 

@@ -12,6 +12,7 @@ use record::numbers::Numbers;
 use record::record::Record;
 use record::refusal::Refusal;
 
+// Twins of a byte log's calls only in outline: see there.
 impl<'a> VersionedFile<'a> {
     // How many records a slice has room for, or that no file can be founded on it.
     pub fn check(rows: &[Row]) -> Result<usize, Refusal>
@@ -64,7 +65,7 @@ impl Account for VersionedFile<'_> {
         // a reader of such a file knows the newest row and goes back by the places in the rows
         let mut at = self.used - 1;
         while at > place {
-            at = self.rows[at].before as usize;
+            at = usize::from(self.rows[at].before);
         }
         Numbers::from(self.rows[at]).try_into()
     }

@@ -102,7 +102,11 @@ impl Peer {
         let highest = told
             .iter()
             .filter_map(|one| one.accepted)
-            .max_by_key(|accepted| accepted.ballot);
+            .reduce(|best, next| if next.ballot > best.ballot {
+                next
+            } else {
+                best
+            });
         Peer {
             carried: highest.map_or(self.proposed, |accepted| accepted.value),
             phase: Phase::Accepting,

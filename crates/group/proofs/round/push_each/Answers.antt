@@ -1,12 +1,9 @@
-use Rattle.std.proofs.Common.{ℕ, [], ◌∷◌, ◌++◌, take, subst, sym, ap, ◌∙◌, append_assoc, append-nil}
-use Rattle.std.proofs.lemmas.List.{take_more, take_all}
+use Rattle.std.proofs.Common.{ℕ, [], ◌∷◌, ◌++◌, take, subst, sym, ap, ◌∙◌, append_assoc}
+use Rattle.std.proofs.lemmas.List.{take_more}
 use Rattle.std.proofs.lemmas.Slice.Zip.{all_zipped_more}
 use Rattle.std.specs.List.{AllZip}
 use Rattle.protocol.specs.declared.call.Call.{Call}
 use Rattle.group.proofs.round.push_each.Goals as goal
-
-pub loop-account-init : goal.loop-account-init
-loop-account-init g c = ([], sym (append-nil _), tt)
 
 pub loop-account-preserved : goal.loop-account-preserved
 loop-account-preserved g c =
@@ -19,9 +16,3 @@ loop-account-preserved g c =
       c.in_ok-push.ensures.items ∙ ap (λ l. l ++ c.call.result ∷ []) inv.1 ∙ append_assoc _ inv.0 (c.call.result ∷ []),
       subst (λ l. AllZip called l (inv.0 ++ c.call.result ∷ [])) (sym (take_more ks i 0 c.loop-account-test.true)) next,
     )
-
-pub returns : goal.returns
-returns g c =
-    let inv = c.loop-account.invariant in
-    let called : ℕ → Call → Type 0 = λ k x. g.F.Fn.post c.args.call (k, tt) x in
-    (inv.0, inv.1, subst (λ l. AllZip called l inv.0) (take_all c.loop-account.account-index c.args.accounts.now c.loop-account-test.false) inv.2)

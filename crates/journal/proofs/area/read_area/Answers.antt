@@ -7,19 +7,6 @@ use Rattle.journal.proofs.Fronts.{after, after_more, nothing-after, read-turn, r
 use Rattle.journal.proofs.area.read_area.Goals as goal
 use Rattle.journal.proofs.area.read_area.Goals.{In-Some}
 
-pub loop-bytes-init : goal.loop-bytes-init
-loop-bytes-init c =
-    let a = c.chunks-bytes-items.ensures in
-    let d = c.into_iter-bytes-iterator.ensures.into_iter_gives in
-    let n = c.new-records.ensures in
-    let size : chunks_size c.into_iter-bytes-iterator.result ≡ 16 = ap chunks_size d ∙ a.size in (
-      omega (arith, size),
-      omega arith,
-      size,
-      omega arith,
-      λ i. after (map entry_of (n.items i)) (read_area (limit - n.len i) ((ap chunks_rest d ∙ a.rest) i)),
-    )
-
 -- the records so far, the one at hand and what comes after it are what is read of the whole area
 turn : (c : In-Some) → (vec_len c.loop-bytes.records ≡ limit → ⊥)
     → after (map entry_of (vec_items c.loop-bytes.records))

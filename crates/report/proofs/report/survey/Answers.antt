@@ -6,9 +6,6 @@ use Rattle.report.specs.Report.{occurs}
 use Rattle.report.proofs.Steps.{next-entry, last_entry}
 use Rattle.report.proofs.report.survey.Goals as goal
 
-pub loop-r-init : goal.loop-r-init
-loop-r-init c = ap (λ v. view c.args.version v (map entry_of c.args.records.now)) c.new-view.ensures
-
 pub loop-r-preserved : goal.loop-r-preserved
 unfolding view
 loop-r-preserved c =

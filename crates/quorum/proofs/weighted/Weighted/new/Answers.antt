@@ -1,8 +1,8 @@
-use Rattle.std.proofs.Common.{◌≡◌, ℕ, List, ◌≤◌, true, false, eqb, ◌++◌, ◌∷◌, [], drop, length, Ok, sym, ap, ◌∙◌, arith, length-append, length-drop}
-use Rattle.std.proofs.lemmas.Bool.{le-leb, ne_eqb}
-use Rattle.quorum.specs.Weights.{weight, weight_in, everyone, is_count, total}
+use Rattle.std.proofs.Common.{sum, rules, refl, ◌≡◌, ℕ, List, ◌≤◌, true, false, eqb, ◌++◌, ◌∷◌, [], drop, length, Ok, sym, ap, ◌∙◌, arith, length-append, length-drop}
+use Rattle.std.proofs.lemmas.Bool.{le-leb, eq-eqb, ne_eqb}
+use Rattle.quorum.specs.Weights.{everyone, is_count, total}
 use Rattle.quorum.specs.Weighing.{weight-same, weighted-same}
-use Rattle.quorum.proofs.Counting.{held-in}
+use Rattle.quorum.proofs.Counting.{held-in, summed}
 use Rattle.quorum.proofs.weighted.Weighted.new.Goals as goal
 use Rattle.quorum.proofs.weighted.Weighted.new.Goals.{Else-total-eq0}
 
@@ -10,10 +10,18 @@ use Rattle.quorum.proofs.weighted.Weighted.new.Goals.{Else-total-eq0}
 abbrev zeros : List ℕ
 zeros = 0 ∷ 0 ∷ 0 ∷ 0 ∷ 0 ∷ 0 ∷ 0 ∷ []
 
-total-is : (c : Else-total-eq0) → c.loop-weight.total ≡ total c.args.weights.now
+total-is : (c : Else-total-eq0) → c.sum-total.result ≡ total c.args.weights.now
 total-is c =
-    let e : c.loop-weight.weight-index ≡ length c.args.weights.now = omega arith in
-    c.loop-weight.invariant.0 ∙ ap (λ n. weight (weight_in c.args.weights.now) n everyone) e
+    let e : c.sum-total.result ≡ sum c.args.weights.now = search rules in
+    e ∙ summed c.args.weights.now
+
+pub returns-then-total-eq0 : goal.returns-then-total-eq0
+returns-then-total-eq0 c =
+    let ws = c.args.weights.now in
+    let e : c.sum-total.result ≡ sum ws = search rules in
+    let counted : is_count (length ws) ≡ true = rw (le-leb 1 (length ws) c.if-n-lt1.false, le-leb (length ws) 7 c.if-n-gt7.false) in
+    let none : eqb (total ws) 0 ≡ true = eq-eqb (total ws) 0 (sym (summed ws) ∙ sym e ∙ c.if-total-eq0.true) in
+    rw (counted, none) refl
 
 pub invariant_of-result : goal.invariant_of-result
 invariant_of-result c =
@@ -21,7 +29,7 @@ invariant_of-result c =
     let rest = drop (length ws) zeros in
     let copied = c.copy_from_slice.new.self in
     let seven : length (copied ++ rest) ≡ 7 = omega (arith, length-append copied rest, length-drop (length ws) zeros, ap length c.copy_from_slice.ensures.after, c.if-n-gt7.false) in
-    let heavy : 1 ≤ c.loop-weight.total = omega arith in
+    let heavy : 1 ≤ c.sum-total.result = omega arith in
     record {
       size_in = (c.if-n-lt1.false, c.if-n-gt7.false);
       seven = seven;

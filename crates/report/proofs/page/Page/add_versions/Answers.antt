@@ -1,12 +1,9 @@
-use Rattle.std.proofs.Common.{◌≡◌, suc, ◌+◌, ◌-◌, ◌++◌, map, sym, refl, ap, ◌∙◌, zero-add, Some, None, cond, is_some, append-nil, add-zero, arith}
+use Rattle.std.proofs.Common.{◌≡◌, suc, ◌+◌, ◌-◌, ◌++◌, map, sym, ap, ◌∙◌, Some, None, cond, is_some, append-nil, add-zero, arith}
 use Rattle.record.specs.Entry.{entry_of}
 use Rattle.report.specs.Report.{version_line, version_lines, version_count}
 use Rattle.report.proofs.Steps.{versions-more, counted-more, occurrence-is, versions-end, counted-end, one_at_most}
 use Rattle.report.proofs.page.Page.add_versions.Goals as goal
 use Rattle.report.proofs.page.Page.add_versions.Goals.{in-Some+in_ok-add_view, in_default}
-
-pub loop-version-init : goal.loop-version-init
-loop-version-init c = (refl, zero-add _, omega arith)
 
 pub loop-version-preserved : goal.loop-version-preserved
 loop-version-preserved c =

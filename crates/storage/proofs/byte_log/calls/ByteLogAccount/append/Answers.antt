@@ -1,6 +1,6 @@
 use Rattle.std.proofs.Common.{◌≡◌, ℕ, List, ◌-◌, below_more, ◌+◌, ◌*◌, ◌/◌, ◌<◌, ◌≤◌, eqb, ◌++◌, length, take, drop, is_ok, Ok, sym, refl, ap, ◌∙◌, arith}
 use lib.Seq.{paste, length-paste}
-use borrow.Rule.Slice.PartMut.{put_mid}
+use borrow.Rule.Slice.PartMut.{put_mid, same_len_mid}
 use Rattle.std.proofs.lemmas.Slice.{put_mid-paste}
 use Rattle.std.proofs.lemmas.List.{take_all}
 use Rattle.std.proofs.lemmas.Bool.{cond-true, cond-false, eq-eqb, ne_eqb}
@@ -61,9 +61,10 @@ pub invariant_of-self : goal.invariant_of-self
 invariant_of-self c =
     let a = (goal.at.invariant_of-self c).After-copy_from_slice in
     let s = c.args.self.now in
+    let long = same_len_mid _ _ s.area.now _ c.copy_from_slice.ensures.len in
     record {
-      whole = rw (area-long a) s.whole;
-      within = omega (arith, inside a, area-long a);
+      whole = rw long s.whole;
+      within = omega (arith, inside a, long);
       sound =
           below_more _ _ (λ k h. ap (λ x. is_ok (decoded x)) (old-slot a k h) ∙ s.sound k h)
           (ap (λ x. is_ok (decoded x)) (new-slot a) ∙ ap is_ok c.to_bytes.ensures.back);
