@@ -1,4 +1,5 @@
 pub mod Numbers
+pub mod Sound
 pub mod Models
 pub mod Acts
 pub mod Founding

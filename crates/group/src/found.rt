@@ -1,7 +1,8 @@
-ghost use Rattle.std.specs.Prelude.{◌≡◌, length, Ok, OnOk};
+ghost use Rattle.std.specs.Prelude.{◌≡◌, length, Ok, OnOk, IfOk};
 ghost use Rattle.protocol.specs.Chain.{OneOrder};
 ghost use Rattle.group.specs.Founding.{all_empty, founding, new_state, new_model, Replayed};
 ghost use Rattle.group.specs.Models.{model_of};
+ghost use Rattle.group.specs.Sound.{AreSound};
 ghost use Rattle.group.specs.declared.found.NotRun.TheVariants.{Refused, NoMemory};
 
 use crate::calls::Calls;
@@ -74,9 +75,10 @@ pub fn check<A: Accounts, Q: Quorum>(accounts: &A, quorum: &Q) -> Result<(), Ref
 impl<A: Accounts, Q: Quorum> Group<A, Q> {
     // All devices, as they are now.
     pub fn devices(&self) -> DeviceTable
-        ensures { result ≡ self.now.table }
+        ensures same { result ≡ self.now.table }
+        ensures sound { AreSound result }
     {
-        self.table
+        self.table.snapshot()
     }
 
     // The accounts, to read.
@@ -108,6 +110,7 @@ pub fn found_and_run<A: Accounts + Drop, Q: Quorum + Drop>(
 ) -> Result<Replay, NotRun>
     ensures run { Replayed (Q.Quorum.rule quorum) (A.Accounts.books accounts) calls.now result }
     ensures order { OnOk result (OneOrder (Q.Quorum.rule quorum) (new_state (A.Accounts.books accounts)) calls.now) }
+    ensures sound { IfOk result (λ p. AreSound p.devices) }
 {
     check(&accounts, &quorum)?;
     let mut group = Group::new(accounts, quorum);

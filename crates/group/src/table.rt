@@ -1,9 +1,10 @@
-ghost use Rattle.std.specs.Prelude.{◌≡◌, ◌<◌, false, [], replicate, slice_set};
+ghost use Rattle.std.specs.Prelude.{◌≡◌, ◌<◌, false, [], replicate, slice_set, IfSome};
 ghost use Rattle.record.specs.Checks.{unless};
 ghost use Rattle.protocol.specs.Device.{new_device, with_link, restarted};
 ghost use Rattle.protocol.specs.Refusals.{device_checks};
 ghost use Rattle.group.specs.Models.{sought, device_in, attempted_in, state_of};
 ghost use Rattle.group.specs.Numbers.{device_number_in};
+ghost use Rattle.group.specs.Sound.{IsSound, AreSound};
 
 use crate::account_number::AccountNumber;
 use crate::device::Device;
@@ -13,8 +14,9 @@ use record::refusal::Refusal;
 use record::value::Value;
 use std::marker::Model;
 
-// Sixteen devices, told by their numbers: contracts see the list of them. A method that changes a record lends it inside:
-// no reference to one leaves the table. That there are sixteen, by value, is a rule of devices.
+// Sixteen devices, told by their numbers: contracts see the list of them, and each is sound.
+// A method that changes a record lends it inside: no reference to one leaves the table.
+// That there are sixteen, by value, is a rule of devices.
 #[derive(Clone, Copy)]
 pub struct DeviceTable {
     pub(crate) rows: [Device; 16],
@@ -26,7 +28,11 @@ impl Model for DeviceTable {
 
     ghost Value = { List Device };
 
+    ghost use Rattle.group.specs.Sound.{AreSound};
+
     ghost view = { λ table. table.rows };
+
+    ghost invariant = { λ table. AreSound table.rows };
 
     ghost inverse = { λ devices. record { rows = devices } };
 }
@@ -43,9 +49,19 @@ impl DeviceTable {
 
     // One device's record, to read, if there is such a device.
     pub fn device(&self, device: u32) -> Option<Device>
-        ensures { result ≡ sought self.now device }
+        ensures found { result ≡ sought self.now device }
+        ensures sound { IfSome result IsSound }
     {
         self.rows.get(device as usize).copied()
+    }
+
+    // A copy of it, to read. What is true of each device, its reader knows of it.
+    pub fn snapshot(&self) -> DeviceTable
+        ensures same { result ≡ self.now }
+        ensures sound { AreSound result }
+    {
+        let _rows = &self.rows;
+        *self
     }
 
     // A copy of one device's record.

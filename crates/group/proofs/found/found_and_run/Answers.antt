@@ -12,6 +12,7 @@ returns g c =
     record {
       run =
           let e = c.in_ok-answers.ensures.run ∙ ap (λ m. runs_on m c.args.calls.now) c.new-group.ensures in
-          (ap (λ p. p.0) e, c.devices.ensures ∙ ap (λ p. p.1.state.devices) e);
+          (ap (λ p. p.0) e, c.devices.ensures.same ∙ ap (λ p. p.1.state.devices) e);
       order = one-order R (g.met.Q.Quorum.lawful c.args.quorum) (new_state bs) (founded-new R bs (sym c.in_ok-check.ensures)) c.args.calls.now;
+      sound = c.devices.ensures.sound;
     }
