@@ -1,10 +1,12 @@
 -- A loop over records, by what is still to come. Assumes nothing.
-use Rattle.std.proofs.Common.{◌==◌, ◌≡◌, ℕ, suc, ◌+◌, ◌<◌, ◌≤◌, Bool, true, false, cond, ◌||◌, List, [], ◌∷◌, ◌++◌, map, length, get_or, drop, is_some, Some, None, Option, sym, refl, ap, ◌∙◌, append-nil, append_assoc, add-zero, add-one, arith, drop-cons}
-use Rattle.std.proofs.lemmas.List.{drop_all}
-use Rattle.journal.specs.Log.{says}
+use Rattle.std.proofs.Common.{◌==◌, ◌≡◌, ℕ, suc, ◌+◌, ◌<◌, ◌≤◌, Bool, true, false, cond, ◌||◌, ◌&&◌, not, max, nat_le, nat_lt, List, [], ◌∷◌, ◌++◌, map, length, get_or, drop, take, ◌-◌, length-drop, is_some, Some, None, Option, sym, refl, ap, ◌∙◌, append-nil, append_assoc, add-zero, add-one, arith, drop-cons}
+use Rattle.std.proofs.lemmas.List.{drop_all, take_all}
+use Rattle.journal.specs.Log.{is_accept, unread, tell, view, says}
 use Rattle.journal.specs.declared.view.View.{View}
-use Rattle.record.specs.Entry.{Entry, entry_of}
-use Rattle.std.specs.List.{list_any}
+use Rattle.record.specs.Entry.{Entry, ballot, entry_of}
+use Rattle.std.specs.List.{position, position_or_len}
+use Rattle.std.specs.Option.{option_map}
+use Rattle.std.proofs.lemmas.Bool.Decides.{nat_tests}
 use Rattle.record.specs.declared.record.Record.{Record}
 use Rattle.report.specs.Report.{record_lines, occurs, surveyed, version_line, version_lines, version_count, occurrence}
 use Rattle.report.specs.Lines.{record_line}
@@ -64,7 +66,57 @@ pub one_at_most : {X : Type 0} (o : Option X) → cond (is_some o) 1 0 ≤ 1
 one_at_most None = omega arith
 one_at_most (Some x) = omega arith
 
--- a test of what records say is the test of the records
-pub occurs_is : (w : ℕ) (rs : List Record) → list_any (λ r. r.version == w) rs ≡ occurs w (map entry_of rs)
-occurs_is w [] = refl
-occurs_is w (r ∷ rs) = ap (λ b. r.version == w || b) (occurs_is w rs)
+-- a record of another version says nothing of this one
+tell-other : (w : ℕ) (v : View) (e : Entry) → (e.version == w) ≡ false → tell w v e ≡ v
+unfolding tell
+tell-other w v e h =
+    ap (λ b. cond ((b && (is_accept e.kind && nat_le v.promised (ballot e))) && nat_le v.accepted (ballot e)) (record { promised = v.promised; accepted = ballot e; value = e.value }) (cond (b && not (is_accept e.kind)) (record { promised = max v.promised (ballot e); accepted = v.accepted; value = v.value }) v)) h
+
+module _ (w : ℕ) where
+  -- nor do those before its first one
+  pub skips : (rs : List Record) (v : View) → view w v (map entry_of (drop (position_or_len (λ r. r.version == w) rs) rs)) ≡ view w v (map entry_of rs)
+  unfolding view
+  skips [] v = refl
+  skips (r ∷ rs) v = at (skips rs v) (r.version == w) refl
+    where
+      n : ℕ
+      n = position_or_len (λ x. x.version == w) rs
+
+      at : view w v (map entry_of (drop n rs)) ≡ view w v (map entry_of rs) → (b : Bool) → (r.version == w) ≡ b
+          → view w v (map entry_of (drop (cond (not b) (1 + n) 0) (r ∷ rs))) ≡ view w v (entry_of r ∷ map entry_of rs)
+      at _ true h = refl
+      at after false h =
+          let e : 1 + n ≡ suc n = omega arith in
+          ap (λ k. view w v (map entry_of (drop k (r ∷ rs)))) e ∙ after ∙ ap (λ x. view w x (map entry_of rs)) (sym (tell-other w v (entry_of r) h))
+
+  -- and it has one where its first one stands
+  pub occurs_at : (rs : List Record) → occurs w (map entry_of rs) ≡ nat_lt (position_or_len (λ r. r.version == w) rs) (length rs)
+  occurs_at [] = refl
+  occurs_at (r ∷ rs) = at (occurs_at rs) (r.version == w)
+    where
+      n : ℕ
+      n = position_or_len (λ x. x.version == w) rs
+
+      at : occurs w (map entry_of rs) ≡ nat_lt n (length rs) → (b : Bool) → (b || occurs w (map entry_of rs)) ≡ nat_lt (cond (not b) (1 + n) 0) (suc (length rs))
+      at _ true = grind (arith, nat_tests)
+      at after false = after ∙ grind (arith, nat_tests)
+
+  -- so what the records say is what they say from its first one on
+  pub surveyed-is : (rs : List Record) → surveyed w (map entry_of rs) ≡ option_map (λ i. view w unread (map entry_of (drop i rs))) (position (λ r. r.version == w) rs)
+  surveyed-is rs =
+      ap (λ b. cond b (Some (says w (map entry_of rs))) None) (occurs_at rs)
+      ∙ (ap (λ v. cond (nat_lt n (length rs)) (Some v) None) (sym (skips rs unread)) ∙ at (nat_lt n (length rs)))
+    where
+      n : ℕ
+      n = position_or_len (λ r. r.version == w) rs
+
+      f : ℕ → View
+      f i = view w unread (map entry_of (drop i rs))
+
+      at : (b : Bool) → ◌≡◌ {A = Option View} (cond b (Some (f n)) None) (option_map f (cond b (Some n) None))
+      at true = refl
+      at false = refl
+
+-- a slice from a place on
+pub rest-is : (rs : List Record) (n : ℕ) → take (length rs - n) (drop n rs) ≡ drop n rs
+rest-is rs n = take_all (length rs - n) (drop n rs) (omega (arith, length-drop n rs))

@@ -1,6 +1,6 @@
-ghost use Rattle.std.specs.Prelude.{◌≡◌, ◌++◌, map, IfOk, string_bytes, OnOk};
+ghost use Rattle.std.specs.Prelude.{◌≡◌, ◌++◌, ◌==◌, map, position, IfOk, string_bytes, OnOk};
 ghost use Rattle.record.specs.Entry.{entry_of};
-ghost use Rattle.report.specs.Report.{record_lines, surveyed, occurs, version_lines, version_count, prepares, refusal_lines, front_text, reported};
+ghost use Rattle.report.specs.Report.{record_lines, surveyed, version_lines, version_count, prepares, refusal_lines, front_text, reported};
 
 use crate::page::Page;
 use journal::area::{Reading, read_area};
@@ -10,21 +10,21 @@ use record::record::Record;
 use record::refusal::Refusal;
 use std::alloc::{AllocError, Global};
 
-fn occurs(records: &[Record], version: u32) -> bool
-    ensures { result ≡ occurs version (map entry_of records.now) }
+// Where the first record of a version stands.
+fn first_of(records: &[Record], version: u32) -> Option<usize>
+    ensures { result ≡ position (λ r. r.version == version) records.now }
 {
-    records.iter().any(|r| u32::from(r.version) == version)
+    records.iter().position(|r| u32::from(r.version) == version)
 }
 
-// What the records say about a version, if one of them is of that version.
+// What the records say about a version, if one of them is of that version: those before the first of it say nothing.
 fn survey(records: &[Record], version: u32) -> Option<View>
     ensures { result ≡ surveyed version (map entry_of records.now) }
 {
-    if !occurs(records, version) {
-        return None;
-    }
+    let first = first_of(records, version)?;
     let mut view = View::new();
-    for r in records {
+    let rest = &records[first..];
+    for r in rest {
         view.tell(version, r);
     }
     Some(view)
